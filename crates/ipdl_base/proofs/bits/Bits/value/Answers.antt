@@ -1,0 +1,5 @@
+use Rattle.ipdl_base.proofs.BitsNumbers.{number_from_bits}
+use Rattle.ipdl_base.proofs.bits.Bits.value.Goals as goal
+
+pub returns : goal.returns
+returns c = number_from_bits _ _ _ c.self.view_is c.self.invariant.1

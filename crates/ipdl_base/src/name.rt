@@ -67,11 +67,14 @@ fn spells_name(text: &str) -> bool
     started
 }
 
+// The greatest number of bytes of a name.
+const LONGEST: usize = 64;
+
 // Whether the text is a name.
 fn is_name(text: &str) -> bool
     ensures { result ≡ is_name text.now }
 {
-    text.len() <= 64 && spells_name(text)
+    text.len() <= LONGEST && spells_name(text)
 }
 
 impl Name {

@@ -198,3 +198,6 @@ impl Sink for MemSink {
         Put::Took(count)
     }
 }
+
+#[cfg(test)]
+mod tests;

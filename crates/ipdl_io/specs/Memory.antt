@@ -65,4 +65,5 @@ abbrev pub after_write : SinkState → List ℕ → SinkState
 after_write sink piece =
     if is_failing_write sink then
     record sink { calls = next_count sink.calls; faults = next_count sink.faults }
-    else record sink { calls = next_count sink.calls; taken = sink.taken ++ take (taken_count sink (length piece)) piece }
+    else (let front = take (taken_count sink (length piece)) piece in
+    record sink { calls = next_count sink.calls; taken = sink.taken ++ front })

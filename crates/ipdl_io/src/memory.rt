@@ -79,7 +79,7 @@ impl Source for MemSource {
         requires { 0 < length into.old }
         ensures gives { ReadGives result (Some self.old.left) (Some self.new.left)
             self.old.faults self.new.faults into.new }
-        ensures counted { self.new.faults ≤ last_count }
+        ensures bounded { self.new.faults ≤ last_count }
 
         // The answer, and the source after it.
         ensures exact { result ≡ read_answer self.old (length into.old) }
@@ -130,7 +130,8 @@ impl Model for MemSink {
       faults = s.faults;
     } };
 
-    ghost invariant = { λ s. (vec_len s.taken ≤ s.room) × (s.room ≤ vec_capacity s.taken) × (0 < s.piece) };
+    ghost invariant = { λ s.
+        (vec_len s.taken ≤ s.room) × (s.room ≤ vec_capacity s.taken) × (0 < s.piece) };
 }
 
 impl MemSink {
@@ -180,7 +181,7 @@ impl Sink for MemSink {
         requires { 0 < length piece.now }
         ensures takes { WriteTakes result (Some self.old.taken) (Some self.new.taken)
             self.old.faults self.new.faults piece.now }
-        ensures counted { self.new.faults ≤ last_count }
+        ensures bounded { self.new.faults ≤ last_count }
 
         // The answer, and the sink after it.
         ensures exact { result ≡ write_answer self.old (length piece.now) }

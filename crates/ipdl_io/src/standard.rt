@@ -11,7 +11,7 @@ use std::io::{Read, Write};
 pub struct StdSource<R> {
     reader: R,
     faults: u64,
-    ghost counted: { faults ≤ last_count },
+    ghost bounded: { faults ≤ last_count },
 }
 
 impl<R: Read> StdSource<R> {
@@ -46,7 +46,7 @@ impl<R: Read> Source for StdSource<R> {
 pub struct StdSink<W> {
     writer: W,
     faults: u64,
-    ghost counted: { faults ≤ last_count },
+    ghost bounded: { faults ≤ last_count },
 }
 
 impl<W: Write> StdSink<W> {

@@ -21,8 +21,8 @@ pub enum Put {
     Failed,
 }
 
-/// A source of bytes, which counts its faults in calls. The count never falls, and once it
-/// stands at 2^64 - 1 it stays there.
+/// A source of bytes, with a count of its faults. The count never falls, and where it has come
+/// to 2^64 - 1 it stays there.
 pub trait Source {
     ghost use Rattle.ipdl_io.specs.Faults.{last_count};
     ghost use Rattle.ipdl_io.specs.Streams.{ReadGives};
@@ -30,7 +30,7 @@ pub trait Source {
     // The bytes that are not given yet, or `None` where the source does not tell them.
     ghost left: { Self → Option (List ℕ) };
 
-    // How many reads have failed so far.
+    // The count of the reads that failed.
     ghost faults: { Self → ℕ };
 
     /// Reads the next bytes into the front of a buffer that has room for at least one.
@@ -38,11 +38,11 @@ pub trait Source {
         requires { 0 < length into.old }
         ensures gives { ReadGives result (left self.old) (left self.new)
             (faults self.old) (faults self.new) into.new }
-        ensures counted { faults self.new ≤ last_count };
+        ensures bounded { faults self.new ≤ last_count };
 }
 
-/// A sink of bytes, which counts its faults in calls. The count never falls, and once it stands
-/// at 2^64 - 1 it stays there.
+/// A sink of bytes, with a count of its faults. The count never falls, and where it has come to
+/// 2^64 - 1 it stays there.
 pub trait Sink {
     ghost use Rattle.ipdl_io.specs.Faults.{last_count};
     ghost use Rattle.ipdl_io.specs.Streams.{WriteTakes};
@@ -50,7 +50,7 @@ pub trait Sink {
     // The bytes that were taken, or `None` where the sink does not tell them.
     ghost taken: { Self → Option (List ℕ) };
 
-    // How many writes have failed so far.
+    // The count of the writes that failed.
     ghost faults: { Self → ℕ };
 
     /// Writes the front of a piece that has at least one byte.
@@ -58,5 +58,5 @@ pub trait Sink {
         requires { 0 < length piece.now }
         ensures takes { WriteTakes result (taken self.old) (taken self.new)
             (faults self.old) (faults self.new) piece.now }
-        ensures counted { faults self.new ≤ last_count };
+        ensures bounded { faults self.new ≤ last_count };
 }

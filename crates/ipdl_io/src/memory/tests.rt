@@ -1,6 +1,7 @@
 use super::*;
 use std::test::Fail;
 
+// How many bytes a read has room for.
 const SIZE: usize = 4;
 
 // One read through the bound.
@@ -16,6 +17,7 @@ fn write<K: Sink>(sink: &mut K) -> Put {
 #[test]
 fn source_gives_all_in_pieces(rt: HostRuntime) -> Result<(), Fail> {
     use Got::{Bytes, End, Failed};
+    // No test comes to a call of number 9.
     for (piece, failing, want, faults) in [
         (2, [9, 9], [Bytes(2), Bytes(2), Bytes(1), End, End], 0),
         (2, [1, 9], [Bytes(2), Failed, Bytes(2), Bytes(1), End], 1),
@@ -44,24 +46,10 @@ fn source_gives_all_in_pieces(rt: HostRuntime) -> Result<(), Fail> {
 fn sink_takes_up_to_its_room(rt: HostRuntime) -> Result<(), Fail> {
     use Put::{Failed, Took};
     for (room, piece, failing, want, taken, faults) in [
-        (
-            8,
-            4,
-            [9, 9],
-            [Took(3), Took(3), Took(2), Failed],
-            "xyzxyzxy",
-            1,
-        ),
-        (3, 2, [9, 9], [Took(2), Took(1), Failed, Failed], "xyx", 2),
-        (
-            8,
-            4,
-            [0, 2],
-            [Failed, Took(3), Failed, Took(3)],
-            "xyzxyz",
-            2,
-        ),
-        (0, 1, [9, 9], [Failed, Failed, Failed, Failed], "", 4),
+        (8, 4, [9, 9], [Took(3), Took(3), Took(2)], "xyzxyzxy", 0),
+        (3, 2, [9, 9], [Took(2), Took(1), Failed], "xyx", 1),
+        (8, 4, [1, 9], [Took(3), Failed, Took(3)], "xyzxyz", 1),
+        (0, 1, [9, 9], [Failed, Failed, Failed], "", 3),
     ] {
         assert!(rt; 0 < piece);
         let fails = failing.to_vec(rt.alloc())?;

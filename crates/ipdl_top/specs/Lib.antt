@@ -1,0 +1,9 @@
+pub mod Transfers
+pub mod Stops
+pub mod Words
+pub mod Documents
+pub mod Chains
+pub mod Replies
+pub mod Runs
+pub mod Examples
+pub mod Reading

@@ -1,0 +1,154 @@
+ghost use Rattle.std.specs.Prelude.{◌≡◌, ◌≢◌, ◌≤◌, ◌↔◌, ◌+◌, IsTrue, IfOk, Some, List, ℕ, length, map, string_bytes};
+ghost use Rattle.std.specs.Io.KnownBytes.{IsAtEnd};
+ghost use Rattle.ipdl_io.specs.Faults.{MayHaveRisen, HasRisen, DidNotRise};
+ghost use Rattle.ipdl_top.specs.declared.document.Document.{Document};
+ghost use Rattle.ipdl_top.specs.Words.{check_words};
+ghost use Rattle.ipdl_top.specs.Documents.{IsBuilt, spelling};
+ghost use Rattle.ipdl_top.specs.Chains.{Meets, document_text};
+ghost use Rattle.ipdl_top.specs.Transfers.{source_limit, GaveSome, GaveTooMany, Took, TookFront};
+ghost use Rattle.ipdl_top.specs.Replies.{reply_of, document_reply, IsReplyWithin, usage_reply, fault_reply};
+ghost use Rattle.ipdl_top.specs.Runs.{IsVerdict, IsOfWholeSource, IsFinished, IsReplied, IsRepliedFront, IsAcceptedDocument};
+
+use crate::comparing::differing_place;
+use crate::document::Document;
+use crate::reading::{DocumentFault, read_document};
+use crate::status::Status;
+use crate::transfer::{ReadStop, read_all, write_all};
+use crate::writing::{accepted_text, wrong_ends_text};
+use ipdl_base::NoMemory;
+use ipdl_io::{Sink, Source};
+use std::alloc::Global;
+
+/// A status, and the text that is to be written with it.
+#[derive(Debug, Drop)]
+struct Answer {
+    status: Status,
+    text: Vec<u8>,
+}
+
+// Whether the words are the one word `check`.
+fn is_check(words: &[String]) -> bool
+    ensures { IsTrue result ↔ (map string_bytes words.now ≡ check_words) }
+{
+    match words {
+        [word] => word.as_str() == "check",
+        _ => false,
+    }
+}
+
+// The answer to a document of the form: its chain, or where its ends differ.
+fn answer_to_document(alloc: Global, document: &Document) -> Result<Answer, NoMemory>
+    ensures { IfOk result (λ a. reply_of a.status a.text.items ≡ document_reply document.now) }
+{
+    let body = &document.left.body;
+    match differing_place(alloc, &body.second, &body.first, &document.right.body)? {
+        None => Ok(Answer {
+            status: Status::Accepted,
+            text: accepted_text(alloc, document)?,
+        }),
+        Some(place) => Ok(Answer {
+            status: Status::WrongStep,
+            text: wrong_ends_text(alloc, &document.theorem, &place)?,
+        }),
+    }
+}
+
+// The answer to all bytes of a source, which are within the limit.
+fn answer_to(alloc: Global, bytes: &[u8]) -> Result<Answer, NoMemory>
+    ensures { IfOk result (λ a. IsReplyWithin bytes.now (reply_of a.status a.text.items)) }
+{
+    match read_document(alloc, bytes) {
+        Ok(document) => answer_to_document(alloc, &document),
+        Err(DocumentFault::NotBuilt) => Ok(Answer {
+            status: Status::BadSource,
+            text: Vec::from_slice(alloc, b"form 0 NotBuilt\n")?,
+        }),
+        Err(DocumentFault::Memory) => Err(NoMemory),
+    }
+}
+
+// Writes the text, and gives the planned status, or that of a write that failed.
+fn finish<K: Sink>(planned: Status, text: &[u8], sink: &mut K) -> Status
+    ensures { IsFinished planned result (K.taken sink.old) (K.taken sink.new) (K.faults sink.old) (K.faults sink.new) text.now }
+{
+    if write_all(sink, text) {
+        planned
+    } else {
+        Status::WriteFault
+    }
+}
+
+/// Reads the source to its end, and writes the reply to the words and to its bytes.
+///
+/// The words are those after the program's name. Only the one word `check` is a form of words;
+/// at any other words nothing is read. The reply is formed whole before the first byte of it is
+/// written. A source that fails is answered with the line `fault read`.
+pub fn run<S: Source, K: Sink>(
+    alloc: Global,
+    words: &[String],
+    source: &mut S,
+    sink: &mut K,
+) -> Status
+    // Where no call fails, status and text are those of the reply to the words and all bytes.
+    ensures replied { DidNotRise (S.faults source.old) (S.faults source.new) → DidNotRise (K.faults sink.old) (K.faults sink.new) →
+        result ≢ Status.Memory → IsReplied (map string_bytes words.now) result (S.left source.old) (K.taken sink.old) (K.taken sink.new) }
+
+    // No status that words and bytes decide is answered without its cause.
+    ensures verdict { IsVerdict result → IsReplied (map string_bytes words.now) result (S.left source.old) (K.taken sink.old) (K.taken sink.new) }
+    ensures usage_cause { result ≡ Status.Usage → map string_bytes words.now ≢ check_words }
+    ensures over_cause { result ≡ Status.OverLimit → GaveTooMany (S.left source.old) (S.left source.new) }
+    ensures read_cause { result ≡ Status.ReadFault → MayHaveRisen (S.faults source.old) (S.faults source.new) }
+    ensures write_cause { result ≡ Status.WriteFault → MayHaveRisen (K.faults sink.old) (K.faults sink.new) }
+
+    // What is accepted is a document whose ends meet, and each such document is accepted.
+    ensures accepted { result ≡ Status.Accepted → IsAcceptedDocument (S.left source.old) (K.taken sink.old) (K.taken sink.new) }
+    ensures complete { (d : Document) → IsBuilt d → Meets d → length (spelling d) ≤ source_limit → map string_bytes words.now ≡ check_words →
+        S.left source.old ≡ Some (spelling d) → DidNotRise (S.faults source.old) (S.faults source.new) → DidNotRise (K.faults sink.old) (K.faults sink.new) →
+        result ≢ Status.Memory → (result ≡ Status.Accepted) × Took (K.taken sink.old) (K.taken sink.new) (document_text d) }
+
+    // At words of no form nothing is read, and memory is not wanted.
+    ensures unread { map string_bytes words.now ≢ check_words → S.left source.new ≡ S.left source.old }
+    ensures unread_faults { map string_bytes words.now ≢ check_words → S.faults source.new ≡ S.faults source.old }
+    ensures no_memory { map string_bytes words.now ≢ check_words → result ≢ Status.Memory }
+    ensures usage { map string_bytes words.now ≢ check_words → DidNotRise (K.faults sink.old) (K.faults sink.new) → result ≡ Status.Usage }
+    ensures usage_text { map string_bytes words.now ≢ check_words → DidNotRise (K.faults sink.old) (K.faults sink.new) →
+        Took (K.taken sink.old) (K.taken sink.new) usage_reply.text }
+
+    // What follows from a fault.
+    ensures read_rose { HasRisen (S.faults source.old) (S.faults source.new) → DidNotRise (K.faults sink.old) (K.faults sink.new) → result ≡ Status.ReadFault }
+    ensures read_rose_text { HasRisen (S.faults source.old) (S.faults source.new) → DidNotRise (K.faults sink.old) (K.faults sink.new) →
+        Took (K.taken sink.old) (K.taken sink.new) fault_reply.text }
+    ensures write_rose { HasRisen (K.faults sink.old) (K.faults sink.new) → result ≡ Status.WriteFault }
+    ensures write_rose_text { DidNotRise (S.faults source.old) (S.faults source.new) → HasRisen (K.faults sink.old) (K.faults sink.new) →
+        IsRepliedFront (map string_bytes words.now) (S.left source.old) (K.taken sink.old) (K.taken sink.new) }
+    ensures both_rose_text { HasRisen (S.faults source.old) (S.faults source.new) → TookFront (K.taken sink.old) (K.taken sink.new) fault_reply.text }
+
+    // What stands after every answer.
+    ensures read_to_end { IsOfWholeSource result → IsAtEnd (S.left source.new) }
+    ensures memory_taken { result ≡ Status.Memory → K.taken sink.new ≡ K.taken sink.old }
+    ensures memory_faults { result ≡ Status.Memory → K.faults sink.new ≡ K.faults sink.old }
+    ensures source_faults { S.faults source.old ≤ S.faults source.new }
+    ensures sink_faults { K.faults sink.old ≤ K.faults sink.new }
+    ensures gave { GaveSome (S.left source.old) (S.left source.new) }
+    ensures took { (text : List ℕ) × TookFront (K.taken sink.old) (K.taken sink.new) text }
+{
+    if !is_check(words) {
+        return finish(Status::Usage, b"usage\n", sink);
+    }
+    let bytes = match read_all(alloc, source) {
+        Ok(bytes) => bytes,
+        Err(ReadStop::Fault) => return finish(Status::ReadFault, b"fault read\n", sink),
+        Err(ReadStop::TooMany) => {
+            return finish(
+                Status::OverLimit,
+                b"limit Source 1048576 at byte 1048576\n",
+                sink,
+            );
+        }
+        Err(ReadStop::Memory) => return Status::Memory,
+    };
+    match answer_to(alloc, bytes.as_slice()) {
+        Ok(answer) => finish(answer.status, answer.text.as_slice(), sink),
+        Err(NoMemory) => Status::Memory,
+    }
+}

@@ -1,0 +1,5 @@
+pub mod Deciding
+pub mod ChannelSets
+pub mod NameOrder
+pub mod FittingLemmas
+pub mod SizeLemmas

@@ -1,0 +1,5 @@
+use Rattle.ipdl_laws.proofs.PlaceLaws.{alike_at_hole}
+use Rattle.ipdl_laws.proofs.equality.alike_at_hole.Goals as goal
+
+pub returns : goal.returns
+returns c = alike_at_hole

@@ -1,0 +1,4 @@
+pub mod Alike
+pub mod Places
+pub mod ReactionTotals
+pub mod Flat

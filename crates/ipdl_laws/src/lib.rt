@@ -1,0 +1,8 @@
+//! The laws of the meaning of terms and protocols. Each is a function that does nothing and has the
+//! law as its contract, so that the check proves it.
+#![tactic(auto)]
+
+pub mod equality;
+pub mod meaning;
+pub mod rules;
+pub mod terms;

@@ -1,0 +1,91 @@
+//! Laws of what reactions and protocols do.
+
+ghost use Rattle.std.specs.Prelude.{◌≡◌, ◌+◌, ◌*◌, ◌^◌, ◌≤◌, ◌∷◌, List, ℕ, Bool, Some, take, drop};
+ghost use Rattle.ipdl_laws.specs.Flat.{flat_valuation};
+ghost use Rattle.ipdl_laws.specs.ReactionTotals.{OutcomeFits, Weight, reaction_total, value_count, weight_then};
+ghost use Rattle.ipdl_term.specs.Channels.{outputs};
+ghost use Rattle.ipdl_term.specs.Counts.{History, history_count, total};
+ghost use Rattle.ipdl_term.specs.Interpretations.{Interpretation, Signature};
+ghost use Rattle.ipdl_term.specs.Protocols.{coins, protocol_valuation, round};
+ghost use Rattle.ipdl_term.specs.Reactions.{reaction_coins, reaction_outcome};
+ghost use Rattle.ipdl_term.specs.Terms.{Protocol, Reaction, Value, binding, parallel};
+ghost use Rattle.ipdl_term.specs.Typing.{IsTyped, Scope};
+ghost use Rattle.ipdl_term.specs.Valuations.{LiesWithin, Valuation, all_taken_out, nothing};
+
+/// With more inputs a reaction that is not stuck does the same.
+pub fn reaction_is_monotone()
+    ensures { (J : Interpretation) (r : Reaction) (env : List Value) (inputs inputs' : Valuation)
+        (tape : List Bool) → LiesWithin inputs inputs' → (o : Value × List Bool) →
+        reaction_outcome J r env inputs tape ≡ Some o →
+        reaction_outcome J r env inputs' tape ≡ Some o }
+{}
+
+/// With more inputs a protocol writes what it wrote, and maybe more.
+pub fn protocol_is_monotone()
+    ensures { (J : Interpretation) (p : Protocol) (tape : List Bool) (inputs inputs' : Valuation) →
+        LiesWithin inputs inputs' →
+        LiesWithin (protocol_valuation J p tape inputs) (protocol_valuation J p tape inputs') }
+{}
+
+/// What two protocols side by side write is left as it is by a further round, and it is the least
+/// valuation that a round does not lead out of.
+pub fn rounds_reach_the_least()
+    ensures { (J : Interpretation) (p q : Protocol) (tape : List Bool) (inputs : Valuation) →
+        let left = protocol_valuation J p (take (coins p) tape) in
+        let right = protocol_valuation J q (drop (coins p) tape) in
+        let stripped = all_taken_out (outputs (parallel p q)) inputs in
+        let step = round (outputs p) (outputs q) left right stripped in
+        let result = protocol_valuation J (parallel p q) tape inputs in
+        (step result ≡ result) × ((t : Valuation) → LiesWithin (step t) t → LiesWithin result t) }
+{}
+
+/// Each bit past a protocol's coins doubles the total of whatever depends on what the protocol
+/// does.
+pub fn further_bits()
+    ensures { (J : Interpretation) (p : Protocol) (n : ℕ) (weight : (Valuation → Valuation) → ℕ) →
+        coins p ≤ n →
+        total (n + 1) (λ tape. weight (protocol_valuation J p tape)) ≡
+        2 * total n (λ tape. weight (protocol_valuation J p tape)) }
+{}
+
+/// Each bit past a protocol's coins doubles the count of every history.
+pub fn count_doubles()
+    ensures { (J : Interpretation) (p : Protocol) (n : ℕ) (h : History) → coins p ≤ n →
+        history_count J p (n + 1) h ≡ 2 * history_count J p n h }
+{}
+
+/// Each bit past a reaction's coins doubles the total of every weight.
+pub fn reaction_total_doubles()
+    ensures { (J : Interpretation) (r : Reaction) (env : List Value) (inputs : Valuation)
+        (n : ℕ) (weight : Weight) → reaction_coins r ≤ n →
+        reaction_total J r env inputs (n + 1) weight ≡ 2 * reaction_total J r env inputs n weight }
+{}
+
+/// On tapes that are long enough for a binding its total, times the number of tapes, is the total
+/// of its first part, where each value weighs as much as the second part's total under it.
+pub fn bind_product()
+    ensures { (J : Interpretation) (w : ℕ) (r s : Reaction) (env : List Value) (inputs : Valuation)
+        (n : ℕ) (weight : Weight) → reaction_coins (binding w r s) ≤ n →
+        2 ^ n * reaction_total J (binding w r s) env inputs n weight ≡
+        reaction_total J r env inputs n (weight_then J s env inputs n weight) }
+{}
+
+/// Where the first part of a binding gives values of the binding's width alone, the number of tapes
+/// on which the binding gives a value, times the number of all tapes, is a sum over all values of
+/// that width: of the number of tapes on which the first part gives it, times the number of those
+/// on which the second part then gives the value.
+pub fn bind_product_by_values()
+    ensures { (J : Interpretation) (w : ℕ) (r s : Reaction) (env : List Value) (inputs : Valuation)
+        (n : ℕ) (v : Value) → reaction_coins (binding w r s) ≤ n →
+        ((tape : List Bool) → OutcomeFits w (reaction_outcome J r env inputs tape)) →
+        2 ^ n * value_count J (binding w r s) env inputs n v ≡
+        total w (λ u. value_count J r env inputs n u * value_count J s (u ∷ env) inputs n v) }
+{}
+
+/// Flat rounds over all assignments of a typed protocol, each of which reads what the others wrote
+/// before, write the same at the outputs as the nested rounds of the protocol's parts.
+pub fn flat_values()
+    ensures { (sig : Signature) (scope : Scope) (J : Interpretation) (p : Protocol)
+        (tape : List Bool) → IsTyped sig scope p →
+        protocol_valuation J p tape nothing ≡ flat_valuation J p tape }
+{}

@@ -1,0 +1,9 @@
+pub mod Trees
+pub mod Spelling
+pub mod Refusals
+pub mod Views
+pub mod WellFormed
+pub mod Faults
+pub mod Characters
+pub mod Reading
+pub mod ReaderViews

@@ -1,0 +1,9 @@
+pub mod First
+pub mod Exactly
+pub mod Ports
+pub mod VisibleLaws
+pub mod VisibleLists
+pub mod PortScopes
+pub mod ProtocolLaws
+pub mod ProtocolTyping
+pub mod Typed

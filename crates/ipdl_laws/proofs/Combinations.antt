@@ -6,7 +6,8 @@ use Rattle.ipdl_term.specs.Channels.{same_channel, has, union, SameSet, AreDisjo
 use Rattle.ipdl_term.specs.Terms.{Channel}
 use Rattle.ipdl_term.specs.Valuations.{Valuation, nothing, only, combined, taken_out, all_taken_out}
 use Rattle.ipdl_laws.proofs.Order.{WritesOnly}
-use Rattle.ipdl_laws.proofs.Sets.{by_test, if-true, if-false, if_same, at_same_channel, has-union, in_union_left, AreDisjoint_swap}
+use Rattle.ipdl_term.proofs.ChannelSets.{has-union}
+use Rattle.ipdl_laws.proofs.Sets.{by_test, if-true, if-false, if_same, at_same_channel, in_union_left, AreDisjoint_swap}
 
 -- of what is taken out nothing is left to take out
 pub all_taken_out_twice : (cs : List Channel) (p : Valuation) → all_taken_out cs (all_taken_out cs p) ≡ all_taken_out cs p

@@ -20,7 +20,8 @@ use Rattle.ipdl_laws.proofs.FurtherBits.{outcome_value_of_coins, protocol_valuat
 use Rattle.ipdl_laws.proofs.Monotone.{WritesOnly-written, WritesOnly-round, WritesOnly-protocol_valuation, LiesWithin-round, IsMonotone-protocol_valuation, reaction_is_monotone}
 use Rattle.ipdl_laws.proofs.Numbers.{key, keys, length-keys, nat_eq_self, has-keys, has-keys_above, has-keys_add, AreDisjoint-keys, nat_eq_apart, is_some-writer_number, writer_number_none, writer_number_own}
 use Rattle.ipdl_laws.proofs.Order.{LiesWithin-refl, LiesWithin_equal, LiesWithin-trans, LiesWithin-nothing, LiesWithin-antisym, if_grows, LiesWithin-combined, WritesOnly}
-use Rattle.ipdl_laws.proofs.Sets.{by_test, if-true, if-false, if_same, not_both, same_channel-refl, at_same_channel, has-single, has-union, has-without, AreDisjoint_swap}
+use Rattle.ipdl_term.proofs.ChannelSets.{same_channel-itself, has-union}
+use Rattle.ipdl_laws.proofs.Sets.{by_test, if-true, if-false, if_same, not_both, at_same_channel, has-single, has-without, AreDisjoint_swap}
 use Rattle.ipdl_laws.proofs.Solutions.{solution-fixed, solution-least}
 use Rattle.ipdl_laws.proofs.Structure.{protocol_valuation_outside, protocol_valuation-hiding}
 
@@ -203,7 +204,7 @@ module _ (J : Interpretation) (tape : List Bool) where
       fun_ext (λ d. by_test (same_channel c d)
       (λ e. written_at (reaction_outcome J r [] (all_taken_out (c ∷ []) x) (drop b tape)) d e ∙
       sym (ap (λ o. led_to o (alone (assignment c r) n b x)) (if-true (same_channel c d) _ _ e) ∙
-      ap (λ u. u (key n)) (step _) ∙ if-true (same_channel (key n) (key n)) _ _ (same_channel-refl (key n))))
+      ap (λ u. u (key n)) (step _) ∙ if-true (same_channel (key n) (key n)) _ _ (same_channel-itself (key n))))
       (λ e. WritesOnly-written c _ d (has-single c d ∙ e) ∙ sym (ap (λ o. led_to o (alone (assignment c r) n b x)) (if-false (same_channel c d) _ _ e))))
     where
       written_at : (o : Outcome) (d : Channel) → same_channel c d ≡ true → written c o d ≡ outcome_value o
@@ -466,7 +467,7 @@ module _ (J : Interpretation) (tape : List Bool) where
   part_step_at nil n b names u j h = absurd (omega arith)
   part_step_at (assignment c r) n b names u zero h =
       let z : n + zero ≡ n = omega arith in
-      rw z (if-true (same_channel (key n) (key n)) _ _ (same_channel-refl (key n)) ∙
+      rw z (if-true (same_channel (key n) (key n)) _ _ (same_channel-itself (key n)) ∙
       ap (λ i. outcome_value (reaction_outcome J r [] i (take (reaction_coins r) (drop b tape)))) (fun_ext (λ d. sym (value_of_seen n (names_within (assignment c r) n names d) u))))
   part_step_at (assignment c r) n b names u (suc j) h = absurd (omega arith)
   part_step_at (parallel p q) n b names u j h =

@@ -16,7 +16,8 @@ use Rattle.ipdl_laws.proofs.Congruence.{alike_sym}
 use Rattle.ipdl_laws.proofs.Monotone.{WritesOnly-round, WritesOnly-protocol_valuation, LiesWithin-round, IsMonotone-protocol_valuation}
 use Rattle.ipdl_laws.proofs.Order.{LiesWithin-refl, LiesWithin-taken_out, WritesOnly}
 use Rattle.ipdl_laws.proofs.ReadingLaws.{protocol_valuation_agree, free_channels-outputs}
-use Rattle.ipdl_laws.proofs.Sets.{by_test, if-true, if-false, if_same, not_both, at_same_channel, has-union, has-without, has-without_same, union_assoc}
+use Rattle.ipdl_term.proofs.ChannelSets.{has-union}
+use Rattle.ipdl_laws.proofs.Sets.{by_test, if-true, if-false, if_same, not_both, at_same_channel, has-without, has-without_same, union_assoc}
 use Rattle.ipdl_laws.proofs.Solutions.{solution_behind}
 use Rattle.ipdl_laws.proofs.Structure.{protocol_valuation-hiding, alike_of_same_valuations, grouped_same}
 

@@ -9,7 +9,8 @@ use Rattle.ipdl_term.specs.Terms.{Value, Channel, Reaction, returning, flipping,
 use Rattle.ipdl_term.specs.Valuations.{Valuation, nothing, taken_out, all_taken_out, LiesWithin}
 use Rattle.ipdl_laws.specs.Alike.{IsMonotone}
 use Rattle.ipdl_laws.proofs.Order.{LiesWithin-refl, LiesWithin-nothing, LiesWithin-combined, LiesWithin-taken_out, LiesWithin-all_taken_out, WritesOnly}
-use Rattle.ipdl_laws.proofs.Sets.{by_test, if-true, if-false, has-union, has-without}
+use Rattle.ipdl_term.proofs.ChannelSets.{has-union}
+use Rattle.ipdl_laws.proofs.Sets.{by_test, if-true, if-false, has-without}
 use Rattle.ipdl_laws.proofs.Solutions.{WritesOnly-after_rounds, LiesWithin-after_rounds, solution-fixed, solution-least}
 
 -- the second result is the first one, unless the first is stuck

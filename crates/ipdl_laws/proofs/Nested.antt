@@ -9,7 +9,8 @@ use Rattle.ipdl_term.specs.Valuations.{Valuation, nothing, combined, LiesWithin}
 use Rattle.ipdl_laws.specs.Alike.{IsMonotone}
 use Rattle.ipdl_laws.proofs.Combinations.{combined_twice}
 use Rattle.ipdl_laws.proofs.Order.{LiesWithin-refl, LiesWithin_equal, LiesWithin-trans, LiesWithin-antisym, LiesWithin-combined, WritesOnly}
-use Rattle.ipdl_laws.proofs.Sets.{by_test, if-true, if-false, not_both, has-union}
+use Rattle.ipdl_term.proofs.ChannelSets.{has-union}
+use Rattle.ipdl_laws.proofs.Sets.{by_test, if-true, if-false, not_both}
 use Rattle.ipdl_laws.proofs.Solutions.{WritesOnly-after_rounds, LiesWithin-after_rounds, solution-fixed, solution-least, WritesOnly-solution}
 
 -- a step in two arguments that keeps the order

@@ -7,7 +7,8 @@ use Rattle.ipdl_term.specs.Channels.{same_channel, has, AreDisjoint, outputs}
 use Rattle.ipdl_term.specs.Terms.{Channel, Protocol, nil, assignment, parallel, hiding}
 use Rattle.ipdl_term.specs.Variables.{first_number}
 use Rattle.ipdl_laws.specs.Flat.{assignment_count, writer_number}
-use Rattle.ipdl_laws.proofs.Sets.{by_test, if-true, if-false, not_both, or_assoc, same_channel-true, has-union, has-without, has-without_same}
+use Rattle.ipdl_term.proofs.ChannelSets.{same_channel-sound, has-union}
+use Rattle.ipdl_laws.proofs.Sets.{by_test, if-true, if-false, not_both, or_assoc, has-without, has-without_same}
 
 -- the channel of a number
 abbrev pub key : ℕ → Channel
@@ -42,7 +43,7 @@ same_channel-key m k = by_test (nat_eq m k) (λ e. rw e) (λ e. rw e)
 key_of : (n a : ℕ) (d : Channel) → has (keys n a) d ≡ true → (k : ℕ) × (d ≡ key k) × (n ≤ k) × (k < n + a)
 key_of n zero d h = cc
 key_of n (suc a) d h = by_test (same_channel (key n) d)
-    (λ e. (n, sym (same_channel-true (key n) d e), omega arith, omega arith))
+    (λ e. (n, sym (same_channel-sound (key n) d e), omega arith, omega arith))
     (λ e. let k = key_of (suc n) a d (sym (ap (λ b. b || has (keys (suc n) a) d) e) ∙ h) in (k.0, k.1, omega (arith, k.2), omega (arith, k.3)))
 
 -- a number among them

@@ -6,7 +6,7 @@ use Rattle.ipdl_term.specs.Channels.{same_channel, has}
 use Rattle.ipdl_term.specs.Counts.{one_if}
 use Rattle.ipdl_term.specs.Terms.{Value, Channel}
 use Rattle.ipdl_term.specs.Valuations.{Valuation, nothing, combined, taken_out, all_taken_out, LiesWithin}
-use Rattle.ipdl_laws.proofs.Sets.{same_channel-true}
+use Rattle.ipdl_term.proofs.ChannelSets.{same_channel-sound}
 
 -- each valuation lies within itself
 pub LiesWithin-refl : (p : Valuation) → LiesWithin p p
@@ -97,5 +97,5 @@ value_same_of_written_count (d ∷ cs) p q h k c i =
     go (same_channel d c) refl i at_d (value_same_of_written_count cs p q h (omega arith) c)
   where
     go : (b : Bool) → same_channel d c ≡ b → (b || has cs c) ≡ true → p d ≡ q d → (has cs c ≡ true → p c ≡ q c) → p c ≡ q c
-    go true e i at_d ih = subst (λ x. p x ≡ q x) (same_channel-true d c e) at_d
+    go true e i at_d ih = subst (λ x. p x ≡ q x) (same_channel-sound d c e) at_d
     go false e i at_d ih = ih i

@@ -9,7 +9,8 @@ use Rattle.ipdl_term.specs.Protocols.{coins, written, solution, protocol_valuati
 use Rattle.ipdl_term.specs.Reactions.{Outcome, with_bit, first_bits, with_tape, continued, reaction_outcome, reaction_coins}
 use Rattle.ipdl_term.specs.Terms.{Value, Channel, Reaction, returning, flipping, reading, branching, binding, Protocol, nil, assignment, parallel, hiding}
 use Rattle.ipdl_term.specs.Valuations.{Valuation, combined, taken_out, all_taken_out}
-use Rattle.ipdl_laws.proofs.Sets.{by_test, if_same, not_both, same_channel-refl, at_same_channel, has-single, in_union_left, in_union_right, in_second, has-intersection, has-without, has-without_same}
+use Rattle.ipdl_term.proofs.ChannelSets.{same_channel-itself}
+use Rattle.ipdl_laws.proofs.Sets.{by_test, if_same, not_both, at_same_channel, has-single, in_union_left, in_union_right, in_second, has-intersection, has-without, has-without_same}
 
 -- ---- what must be written
 
@@ -88,7 +89,7 @@ module _ (J : Interpretation) where
   reads_enough : (r : Reaction) (env : List Value) (inputs : Valuation) (t : List Bool) → ((c : Channel) → has (reads r) c ≡ true → is_some (inputs c) ≡ true) → reaction_coins r ≤ length t → TakesBits (reaction_coins r) t (reaction_outcome J r env inputs t)
   reads_enough (returning e) env inputs t h k = ((evaluation J env e, t), 0, refl, omega arith, refl)
   reads_enough (flipping w) env inputs t h k = ((take w t, drop w t), w, first_bits_enough w t k, omega arith, refl)
-  reads_enough (reading c) env inputs t h k = TakesBits-with_tape (inputs c) t (h c (has-single c c ∙ same_channel-refl c))
+  reads_enough (reading c) env inputs t h k = TakesBits-with_tape (inputs c) t (h c (has-single c c ∙ same_channel-itself c))
   reads_enough (branching e r s) env inputs t h k =
       TakesBits-chosen (evaluation J env e) (reaction_coins r) (reaction_coins s) (max (reaction_coins r) (reaction_coins s)) t _ _ (omega arith) (omega arith)
       (reads_enough r env inputs t (λ c l. h c (in_union_left (reads r) (reads s) c l)) (omega arith))
@@ -113,7 +114,7 @@ module _ (J : Interpretation) where
   pub reaction_outcome_agree : (r : Reaction) (env : List Value) (inputs inputs' : Valuation) (t : List Bool) → ((d : Channel) → has (reads r) d ≡ true → inputs d ≡ inputs' d) → reaction_outcome J r env inputs t ≡ reaction_outcome J r env inputs' t
   reaction_outcome_agree (returning e) env inputs inputs' t h = refl
   reaction_outcome_agree (flipping w) env inputs inputs' t h = refl
-  reaction_outcome_agree (reading c) env inputs inputs' t h = ap (λ o. with_tape o t) (h c (has-single c c ∙ same_channel-refl c))
+  reaction_outcome_agree (reading c) env inputs inputs' t h = ap (λ o. with_tape o t) (h c (has-single c c ∙ same_channel-itself c))
   reaction_outcome_agree (branching e r s) env inputs inputs' t h =
       rw (
         reaction_outcome_agree r env inputs inputs' t (λ d k. h d (in_union_left (reads r) (reads s) d k)),

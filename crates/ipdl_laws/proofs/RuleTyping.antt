@@ -7,14 +7,15 @@ use Rattle.ipdl_term.specs.Terms.{Channel, Reaction, returning, flipping, readin
 use Rattle.ipdl_term.specs.Typing.{Scope, scope_with, GivesWidth, IsTyped, Typed}
 use Rattle.ipdl_laws.proofs.Grouping.{not_written, union-without}
 use Rattle.ipdl_laws.proofs.ReadingLaws.{free_channels-outputs}
-use Rattle.ipdl_laws.proofs.Sets.{by_test, if-true, if-false, if_same, not_both, or_comm, same_channel-refl, same_channel-false_swap, at_same_channel, has-single, has-union, in_union_left, in_union_right, has-without, union_comm, union_assoc, without_swap, AreDisjoint_swap, AreDisjoint-union, AreDisjoint_union}
+use Rattle.ipdl_term.proofs.ChannelSets.{same_channel-itself, has-union}
+use Rattle.ipdl_laws.proofs.Sets.{by_test, if-true, if-false, if_same, not_both, or_comm, same_channel-false_swap, at_same_channel, has-single, in_union_left, in_union_right, has-without, union_comm, union_assoc, without_swap, AreDisjoint_swap, AreDisjoint-union, AreDisjoint_union}
 
 module _ (sig : Signature) where
   -- a reaction is typed where the channels that it reads have the same widths
   GivesWidth_agree : (r : Reaction) (scope scope' : Scope) (widths : List ℕ) (w : ℕ) → ((c : Channel) → has (reads r) c ≡ true → scope c ≡ scope' c) → GivesWidth sig scope widths r w → GivesWidth sig scope' widths r w
   GivesWidth_agree (returning e) scope scope' widths w h t = t
   GivesWidth_agree (flipping n) scope scope' widths w h t = t
-  GivesWidth_agree (reading c) scope scope' widths w h t = sym (h c (has-single c c ∙ same_channel-refl c)) ∙ t
+  GivesWidth_agree (reading c) scope scope' widths w h t = sym (h c (has-single c c ∙ same_channel-itself c)) ∙ t
   GivesWidth_agree (branching e r s) scope scope' widths w h t = (
     t.0,
     GivesWidth_agree r scope scope' widths w (λ c k. h c (in_union_left (reads r) (reads s) c k)) t.1,
@@ -30,7 +31,7 @@ module _ (sig : Signature) where
   IsTyped_agree nil scope scope' h t = tt
   IsTyped_agree (assignment c r) scope scope' h t = (
     t.0,
-    sym (h c (in_union_left (c ∷ []) (reads r) c (has-single c c ∙ same_channel-refl c))) ∙ t.1,
+    sym (h c (in_union_left (c ∷ []) (reads r) c (has-single c c ∙ same_channel-itself c))) ∙ t.1,
     GivesWidth_agree r scope scope' [] t.0 (λ d k. h d (in_union_right (c ∷ []) (reads r) d k)) t.2,
   )
   IsTyped_agree (parallel p q) scope scope' h t = (

@@ -1,9 +1,11 @@
 -- Cases by a test, and the laws of sets of channels.
-use Rattle.std.proofs.Common.{◌≡◌, Bool, true, false, ◌||◌, List, [], ◌∷◌, ◌++◌, refl, sym, ap, ◌∙◌, subst, eq-eqb, eqb-true}
-use Rattle.std.proofs.lemmas.Bool.{or_left, or_right}
-use Rattle.std.specs.Prelude.{if◌then◌else◌, nat_eq}
+use Rattle.std.proofs.Common.{◌≡◌, Bool, true, false, ◌||◌, List, [], ◌∷◌, refl, sym, ap, ◌∙◌, subst}
+use Rattle.std.proofs.lemmas.Bool.{or_left, or_right, and_parts}
+use Rattle.std.specs.Prelude.{if◌then◌else◌}
 use Rattle.ipdl_term.specs.Channels.{same_channel, has, without, union, intersection, SameSet, AreDisjoint}
 use Rattle.ipdl_term.specs.Terms.{Channel}
+use Rattle.ipdl_term.proofs.ChannelSets.{same_channel-sound, same_channel-itself, same_channel_comm, has-union}
+use Rattle.ipdl_term.proofs.ChannelSets as Members
 
 -- ---- tests
 
@@ -41,54 +43,21 @@ pub or_assoc : (a b c : Bool) → (a || (b || c)) ≡ ((a || b) || c)
 or_assoc true b c = refl
 or_assoc false b c = refl
 
--- a test that the last one follows from may be left out
-or_absorbed : (a b c : Bool) → (a ≡ true → c ≡ true) → (b || c) ≡ ((a || b) || c)
-or_absorbed true true c h = refl
-or_absorbed true false c h = h refl
-or_absorbed false b c h = refl
-
 -- ---- one channel
-
--- channels that the test holds for are equal
-pub same_channel-true : (c d : Channel) → same_channel c d ≡ true → c ≡ d
-same_channel-true [] [] h = refl
-same_channel-true [] (y ∷ ys) h = cc
-same_channel-true (x ∷ xs) [] h = cc
-same_channel-true (x ∷ xs) (y ∷ ys) h = go (nat_eq x y) refl h (same_channel-true xs ys)
-  where
-    go : (b : Bool) → nat_eq x y ≡ b → (if b then same_channel xs ys else false) ≡ true → (same_channel xs ys ≡ true → xs ≡ ys) → x ∷ xs ≡ y ∷ ys
-    go true e h ih = let h1 : x ≡ y = eqb-true _ _ e in let h2 = ih h in cc
-    go false e h ih = cc
-
--- a channel is itself
-pub same_channel-refl : (c : Channel) → same_channel c c ≡ true
-same_channel-refl [] = refl
-same_channel-refl (x ∷ xs) = let e : nat_eq x x ≡ true = eq-eqb x x refl in rw (e, same_channel-refl xs)
 
 -- the order of two different channels
 pub same_channel-false_swap : (c d : Channel) → same_channel c d ≡ false → same_channel d c ≡ false
-same_channel-false_swap c d h = by_test (same_channel d c)
-    (λ e. not_both (same_channel d d) (same_channel-refl d) (subst (λ x. same_channel x d ≡ false) (sym (same_channel-true d c e)) h))
-    (λ e. e)
+same_channel-false_swap c d h = same_channel_comm d c ∙ h
 
 -- a fact on one channel holds of the other where they are the same
 pub at_same_channel : (P : Channel → Type 0) (c d : Channel) → same_channel c d ≡ true → P c → P d
-at_same_channel P c d e h = subst P (same_channel-true c d e) h
+at_same_channel P c d e h = subst P (same_channel-sound c d e) h
 
 -- a set of one channel
 pub has-single : (c d : Channel) → has (c ∷ []) d ≡ same_channel c d
 has-single c d = by_test (same_channel c d) (λ e. rw e) (λ e. rw e)
 
 -- ---- sets
-
--- a channel of a union is in one of the two
-pub has-union : (cs ds : List Channel) (e : Channel) → has (union cs ds) e ≡ (has cs e || has ds e)
-has-union [] ds e = refl
-has-union (c ∷ cs) ds e = go (has ds c) refl (has-union cs ds e)
-  where
-    go : (b : Bool) → has ds c ≡ b → has (union cs ds) e ≡ (has cs e || has ds e) → has (if b then union cs ds else (c ∷ union cs ds)) e ≡ ((same_channel c e || has cs e) || has ds e)
-    go true h ih = ih ∙ or_absorbed (same_channel c e) (has cs e) (has ds e) (λ k. at_same_channel (λ x. has ds x ≡ true) c e k h)
-    go false h ih = ap (λ b. same_channel c e || b) ih ∙ or_assoc (same_channel c e) (has cs e) (has ds e)
 
 -- a channel of the first is in the union
 pub in_union_left : (cs ds : List Channel) (c : Channel) → has cs c ≡ true → has (union cs ds) c ≡ true
@@ -104,41 +73,19 @@ in_second cs ds c h e = sym (ap (λ b. b || has ds c) e) ∙ sym (has-union cs d
 
 -- a channel of an intersection is in both
 pub has-intersection : (cs ds : List Channel) (e : Channel) → has (intersection cs ds) e ≡ true → (has cs e ≡ true) × (has ds e ≡ true)
-has-intersection [] ds e h = cc
-has-intersection (c ∷ cs) ds e h = go (has ds c) refl h (has-intersection cs ds e)
-  where
-    go : (b : Bool) → has ds c ≡ b → has (if b then (c ∷ intersection cs ds) else intersection cs ds) e ≡ true → (has (intersection cs ds) e ≡ true → (has cs e ≡ true) × (has ds e ≡ true)) → ((same_channel c e || has cs e) ≡ true) × (has ds e ≡ true)
-    go true k h ih = by_test (same_channel c e)
-        (λ l. (or_left (same_channel c e) (has cs e) l, at_same_channel (λ x. has ds x ≡ true) c e l k))
-        (λ l. let both = ih (sym (ap (λ b. b || has (intersection cs ds) e) l) ∙ h) in (or_right (same_channel c e) (has cs e) both.0, both.1))
-    go false k h ih = let both = ih h in (or_right (same_channel c e) (has cs e) both.0, both.1)
+has-intersection cs ds e h = and_parts (has cs e) (has ds e) (sym (Members.has-intersection cs ds e) ∙ h)
 
 -- at another channel nothing is taken out
 pub has-without : (c : Channel) (cs : List Channel) (e : Channel) → same_channel c e ≡ false → has (without c cs) e ≡ has cs e
-has-without c [] e h = refl
-has-without c (d ∷ ds) e h = go (same_channel c d) refl (has-without c ds e h)
-  where
-    go : (b : Bool) → same_channel c d ≡ b → has (without c ds) e ≡ has ds e → has (if b then without c ds else (d ∷ without c ds)) e ≡ (same_channel d e || has ds e)
-    go true k ih = ih ∙ ap (λ b. b || has ds e) (sym (at_same_channel (λ x. same_channel x e ≡ false) c d k h))
-    go false k ih = ap (λ b. same_channel d e || b) ih
+has-without c cs e h = Members.has-without c cs e ∙ if-false (same_channel c e) false (has cs e) h
+
+-- the channel is taken out, under another name too
+pub has-without_same : (c : Channel) (cs : List Channel) (d : Channel) → same_channel c d ≡ true → has (without c cs) d ≡ false
+has-without_same c cs d e = Members.has-without c cs d ∙ if-true (same_channel c d) false (has cs d) e
 
 -- the channel itself is taken out
 pub has-without_self : (c : Channel) (cs : List Channel) → has (without c cs) c ≡ false
-has-without_self c [] = refl
-has-without_self c (d ∷ ds) = go (same_channel c d) refl (has-without_self c ds)
-  where
-    go : (b : Bool) → same_channel c d ≡ b → has (without c ds) c ≡ false → has (if b then without c ds else (d ∷ without c ds)) c ≡ false
-    go true k ih = ih
-    go false k ih = rw (same_channel-false_swap c d k, ih)
-
--- the channel itself, under another name
-pub has-without_same : (c : Channel) (cs : List Channel) (d : Channel) → same_channel c d ≡ true → has (without c cs) d ≡ false
-has-without_same c cs d e = at_same_channel (λ x. has (without c cs) x ≡ false) c d e (has-without_self c cs)
-
--- a channel of two lists one after the other is in one of the two
-pub has-append : (cs ds : List Channel) (e : Channel) → has (cs ++ ds) e ≡ (has cs e || has ds e)
-has-append [] ds e = refl
-has-append (c ∷ cs) ds e = ap (λ b. same_channel c e || b) (has-append cs ds e) ∙ or_assoc (same_channel c e) (has cs e) (has ds e)
+has-without_self c cs = has-without_same c cs c (same_channel-itself c)
 
 -- ---- equal and disjoint sets
 

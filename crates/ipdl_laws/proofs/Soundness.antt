@@ -14,7 +14,8 @@ use Rattle.ipdl_laws.specs.Alike.{IsReply, loop_valuation, Alike}
 use Rattle.ipdl_laws.proofs.Congruence.{alike_beside_left, alike_beside_right, alike_under_hiding}
 use Rattle.ipdl_laws.proofs.Contexts.{outputs-plugged}
 use Rattle.ipdl_laws.proofs.Order.{LiesWithin-refl}
-use Rattle.ipdl_laws.proofs.Sets.{by_test, same_channel-refl, at_same_channel, has-append, AreDisjoint_same, AreDisjoint_swap}
+use Rattle.ipdl_term.proofs.ChannelSets.{same_channel-itself, has-append}
+use Rattle.ipdl_laws.proofs.Sets.{by_test, at_same_channel, AreDisjoint_same, AreDisjoint_swap}
 use Rattle.ipdl_laws.proofs.Totals.{total_equal}
 use Rattle.ipdl_laws.proofs.Visible.{free_channels_visible, alike_in_larger_scope}
 use Rattle.ipdl_laws.proofs.Widths.{FitsScope-nothing, KeepsScope-protocol_valuation}
@@ -55,7 +56,7 @@ agree_at_from : (cs : List Channel) (p q : Valuation) → ((c : Channel) → has
 agree_at_from [] p q h = refl
 agree_at_from (d ∷ cs) p q h =
     and_from (same_value (p d) (q d)) (agree_at cs p q)
-    (h d (or_left (same_channel d d) (has cs d) (same_channel-refl d)))
+    (h d (or_left (same_channel d d) (has cs d) (same_channel-itself d)))
     (agree_at_from cs p q (λ c k. h c (or_right (same_channel d c) (has cs c) k)))
 
 -- lists of the same channels

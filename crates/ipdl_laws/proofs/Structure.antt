@@ -15,7 +15,8 @@ use Rattle.ipdl_laws.proofs.FurtherBits.{protocol_valuation-take}
 use Rattle.ipdl_laws.proofs.Monotone.{WritesOnly-round, WritesOnly-protocol_valuation, LiesWithin-round, IsMonotone-protocol_valuation}
 use Rattle.ipdl_laws.proofs.Nested.{IsMonotoneInBoth, solution-solution}
 use Rattle.ipdl_laws.proofs.Order.{LiesWithin-refl, LiesWithin-combined, LiesWithin-all_taken_out, WritesOnly}
-use Rattle.ipdl_laws.proofs.Sets.{by_test, if-true, if-false, if_same, not_both, or_comm, has-union, in_union_left, in_union_right, in_second, has-without, without_swap}
+use Rattle.ipdl_term.proofs.ChannelSets.{has-union}
+use Rattle.ipdl_laws.proofs.Sets.{by_test, if-true, if-false, if_same, not_both, or_comm, in_union_left, in_union_right, in_second, has-without, without_swap}
 use Rattle.ipdl_laws.proofs.Solutions.{solution_same, solution_behind}
 use Rattle.ipdl_laws.proofs.Totals.{total_equal}
 

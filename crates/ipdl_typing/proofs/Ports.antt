@@ -1,8 +1,11 @@
 -- Lists of ports as sets.
-use Rattle.std.proofs.Common.{◌≡◌, ℕ, ◌==◌, nat_eq, Bool, true, false, ◌&&◌, ◌||◌, if◌then◌else◌, List, [], ◌∷◌, refl, sym, ap₂, ◌∙◌, subst, ◌++◌}
+use Rattle.std.proofs.Common.{◌≡◌, ℕ, ◌+◌, ◌<◌, ◌==◌, nat_eq, Bool, true, false, ◌&&◌, if◌then◌else◌, List, [], ◌∷◌, ◌++◌, drop, get_or, length, refl, sym, ap, ap₂, ◌∙◌, subst}
 use Rattle.std.specs.Prelude.{bytes_eq}
-use Rattle.std.specs.List.{list_any}
+use Rattle.std.specs.Bool.{Decides}
+use Rattle.std.specs.Cmp.Lexicographic.{pointwise}
 use Rattle.std.proofs.lemmas.Bool.{eqb-true, eq-eqb, false≢true}
+use Rattle.std.proofs.lemmas.List.{drop_more}
+use Rattle.std.proofs.lemmas.Slice.Eq.{slice_eq-Decides}
 use Rattle.ipdl_term.specs.Terms.{Channel}
 use Rattle.ipdl_term.specs.Channels.{same_channel}
 use Rattle.ipdl_term.specs.declared.interface.Interface.{Interface}
@@ -13,17 +16,22 @@ use Rattle.ipdl_typing.specs.Interfaces.{SamePorts}
 use Rattle.ipdl_typing.proofs.Exactly.{append-clean, checked-clean}
 use Rattle.ipdl_typing.proofs.First.{clean-append, clean-checked}
 
--- one port of the list passes the test of both fields
-pub has_port-any : (ports : List Port) (p : Port) → list_any (λ (held : Port). bytes_eq held.name p.name && nat_eq held.width p.width) ports ≡ has_port ports p
-has_port-any [] p = refl
-has_port-any (q ∷ ports) p =
-    let rest : list_any (λ (held : Port). bytes_eq held.name p.name && nat_eq held.width p.width) ports ≡ has_port ports p = has_port-any ports p in
-    rw (bytes_eq-same_channel q.name p.name, rest) (go (same_channel q.name p.name) (nat_eq q.width p.width) (has_port ports p))
+-- a port more at the end
+pub has_port-push : (ports : List Port) (q p : Port) → has_port (ports ++ q ∷ []) p ≡ (if bytes_eq q.name p.name && nat_eq q.width p.width then true else has_port ports p)
+has_port-push [] q p = rw (bytes_eq-same_channel q.name p.name) (go (same_channel q.name p.name) (nat_eq q.width p.width))
   where
-    go : (a b r : Bool) → ((a && b) || r) ≡ (if a then (if b then true else r) else r)
-    go true true r = refl
-    go true false r = refl
-    go false b r = refl
+    go : (a b : Bool) → (if a then (if b then true else false) else false) ≡ (if a && b then true else false)
+    go true b = refl
+    go false b = refl
+has_port-push (r ∷ ports) q p =
+    let rest : has_port (ports ++ q ∷ []) p ≡ (if bytes_eq q.name p.name && nat_eq q.width p.width then true else has_port ports p) = has_port-push ports q p in
+    rw rest (go (same_channel r.name p.name) (nat_eq r.width p.width) (bytes_eq q.name p.name && nat_eq q.width p.width) (has_port ports p))
+  where
+    go : (a b t r : Bool) → (if a then (if b then true else (if t then true else r)) else (if t then true else r)) ≡ (if t then true else (if a then (if b then true else r) else r))
+    go true true true r = refl
+    go true true false r = refl
+    go true false t r = refl
+    go false b t r = refl
 
 -- a port of a list that another one does not lack is in that one
 pub has_port-lacking : (ps qs : List Port) → lacking ps qs ≡ [] → (p : Port) → has_port ps p ≡ true → has_port qs p ≡ true
@@ -62,6 +70,31 @@ lacking-within (q ∷ ps) qs within =
     later p true true is = refl
     later p true false is = is
     later p false b is = is
+
+-- the test of both fields tells whether two ports are equal
+port_test-Decides : (p q : Port) → Decides (bytes_eq p.name q.name && nat_eq p.width q.width) (p ≡ q)
+port_test-Decides p q = (λ is. go (bytes_eq p.name q.name) (nat_eq p.width q.width) refl refl is, λ same. subst (λ r. (bytes_eq p.name r.name && nat_eq p.width r.width) ≡ true) same itself)
+  where
+    go : (a b : Bool) → bytes_eq p.name q.name ≡ a → nat_eq p.width q.width ≡ b → (a && b) ≡ true → p ≡ q
+    go true true named wide is =
+        let port : Channel → ℕ → Port = λ name width. record { name = name; width = width } in
+        ap₂ port (same_channel-sound p.name q.name (sym (bytes_eq-same_channel p.name q.name) ∙ named)) (eqb-true p.width q.width wide)
+    go true false named wide is = absurd (false≢true is)
+    go false b named wide is = absurd (false≢true is)
+
+    itself : (bytes_eq p.name p.name && nat_eq p.width p.width) ≡ true
+    itself = rw (bytes_eq-same_channel p.name p.name, same_channel-itself p.name, eq-eqb p.width p.width refl) refl
+
+-- a list lacks nothing of one that is written alike
+pub lacking-alike : (ps qs : List Port) (alike : Bool) → alike ≡ pointwise (λ (p q : Port). bytes_eq p.name q.name && nat_eq p.width q.width) ps qs → alike ≡ true → lacking ps qs ≡ []
+lacking-alike ps qs alike is equal =
+    let same : ps ≡ qs = (slice_eq-Decides port_test-Decides ps qs alike is).0 equal in
+    lacking-within ps qs (λ p there. subst (λ list. has_port list p ≡ true) same there)
+
+-- what the rest of a list lacks, from a place on
+pub lacking-drop : (ps qs : List Port) (i : ℕ) (p : Port) → i < length ps → get_or ps i p ≡ p → lacking (drop i ps) qs ≡ checked (has_port qs p) [] (interface p.name) ++ lacking (drop (i + 1) ps) qs
+lacking-drop ps qs i p within at =
+    ap (λ list. lacking list qs) (drop_more ps i p within) ∙ ap (λ q. checked (has_port qs q) [] (interface q.name) ++ lacking (drop (i + 1) ps) qs) at
 
 -- the same ports on both sides lack nothing of one another
 pub sides-SamePorts : (left right : Interface) → SamePorts left.inputs right.inputs → SamePorts left.outputs right.outputs → side_failures left right ≡ []

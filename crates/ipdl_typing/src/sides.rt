@@ -1,27 +1,42 @@
-ghost use Rattle.std.specs.Prelude.{◌≡◌, [], IfErr, OnOk};
+ghost use Rattle.std.specs.HashSet.{contains_by};
+ghost use Rattle.std.specs.Prelude.{◌≡◌, ◌&&◌, [], IfErr, IfOk, OnOk, bytes_eq, nat_eq};
 ghost use Rattle.ipdl_typing.specs.Answers.{TellsFirst};
 ghost use Rattle.ipdl_typing.specs.Checks.{has_port, lacking, side_failures};
 ghost use Rattle.ipdl_typing.specs.Interfaces.{SamePorts};
 
 use crate::fault::{IllCause, TypeFault};
 use crate::place::Place;
+use ipdl_base::{Name, NoMemory};
 use ipdl_term::{Interface, Port};
 use std::alloc::Global;
+use std::collections::HashSet;
 
-// Whether the port is among these, with its name and its width.
-fn has_port(ports: &[Port], port: &Port) -> bool
-    ensures { result ≡ has_port ports.now port.now }
+// The ports as a set of names with widths, where a look-up takes about the same time however many
+// they are. The names stay where they are.
+fn keys_of<'a>(alloc: Global, ports: &'a [Port]) -> Result<HashSet<(&'a Name, u8)>, NoMemory>
+    ensures { IfOk result (λ keys. (port : Port) →
+        contains_by (λ key. bytes_eq port.name key.0.now && nat_eq port.width key.1) keys
+        ≡ has_port ports.now port) }
 {
-    ports.iter().any(|held| *held == *port)
+    let mut keys = HashSet::new(alloc);
+    for port in ports {
+        keys.insert((&port.name, port.width))?;
+    }
+    Ok(keys)
 }
 
-// Checks that the second list has each port of the first.
-fn check_within(alloc: Global, ports: &[Port], others: &[Port]) -> Result<(), TypeFault>
+// Checks that the second list has each port of the first. Lists that are written alike are not
+// looked up.
+fn check_within<'a>(alloc: Global, ports: &'a [Port], others: &'a [Port]) -> Result<(), TypeFault>
     ensures clean { OnOk result (lacking ports.now others.now ≡ []) }
     ensures first { IfErr result (λ fault. TellsFirst fault (lacking ports.now others.now)) }
 {
+    if ports == others {
+        return Ok(());
+    }
+    let keys = keys_of(alloc, others)?;
     for port in ports {
-        if !has_port(others, port) {
+        if !keys.contains(&(&port.name, port.width)) {
             let name = port.name.copy(alloc)?;
             return Err(Place::Root.fault(alloc, IllCause::Interface { name }));
         }

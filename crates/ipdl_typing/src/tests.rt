@@ -346,3 +346,42 @@ fn sides(rt: HostRuntime) -> Result<(), Fail> {
     assert_eq!(rt; got.as_str(), "Interface c");
     Ok(())
 }
+
+#[test]
+fn sides_with_a_name_twice(rt: HostRuntime) -> Result<(), Fail> {
+    let alloc = rt.alloc();
+    let left = interface(alloc, &[("c", 1), ("c", 2)])?;
+    let right = interface(alloc, &[("c", 2), ("c", 1), ("c", 2)])?;
+    let got = unit_text(alloc, check_sides(alloc, &left, &right))?;
+    assert_eq!(rt; got.as_str(), "yes");
+    let fewer = interface(alloc, &[("c", 1)])?;
+    let got = unit_text(alloc, check_sides(alloc, &fewer, &left))?;
+    assert_eq!(rt; got.as_str(), "Interface c");
+    Ok(())
+}
+
+// A port of one bit whose name has this number.
+fn numbered(alloc: Global, number: u32) -> Result<Port, Fail> {
+    let text = format!(in alloc; "c{number}")?;
+    Ok(Port {
+        name: Name::read(alloc, text.as_str())?,
+        width: 1,
+    })
+}
+
+#[test]
+fn many_sides(rt: HostRuntime) -> Result<(), Fail> {
+    let alloc = rt.alloc();
+    let mut left = interface(alloc, &[])?;
+    let mut right = interface(alloc, &[])?;
+    for number in 0..2000 {
+        left.outputs.push(numbered(alloc, number)?)?;
+        right.outputs.push(numbered(alloc, 1999 - number)?)?;
+    }
+    let got = unit_text(alloc, check_sides(alloc, &left, &right))?;
+    assert_eq!(rt; got.as_str(), "yes");
+    left.outputs.push(numbered(alloc, 2000)?)?;
+    let got = unit_text(alloc, check_sides(alloc, &right, &left))?;
+    assert_eq!(rt; got.as_str(), "Interface c2000");
+    Ok(())
+}

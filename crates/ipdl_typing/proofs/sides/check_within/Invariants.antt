@@ -4,4 +4,4 @@ use Rattle.ipdl_typing.proofs.sides.check_within.Given as goal
 
 -- the ports so far are there
 abbrev pub invariant-loop-port : goal.invariant-loop-port
-invariant-loop-port l = lacking l.ports l.others ≡ lacking (drop l.port-index l.ports) l.others
+invariant-loop-port l = lacking l.ports l.fn.others ≡ lacking (drop l.port-index l.ports) l.fn.others

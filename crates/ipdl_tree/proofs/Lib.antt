@@ -21,6 +21,6 @@ mod Refusing
 mod Rest
 mod Sound
 mod Soundness
-mod Sources
+pub mod Sources
 -- The contracts of the public calls.
 mod Outcomes

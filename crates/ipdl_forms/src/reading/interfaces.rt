@@ -1,0 +1,121 @@
+//! Interfaces of protocols, in reading order.
+
+ghost use Rattle.std.specs.Prelude.{◌≡◌, ◌++◌, [], false, Some, IfOk, OnOk, IfErr};
+ghost use Rattle.ipdl_tree.specs.Trees.{group};
+ghost use Rattle.ipdl_tree.specs.Views.{placed, all_placed};
+ghost use Rattle.ipdl_forms.specs.Faults.{TellsFirst};
+ghost use Rattle.ipdl_forms.specs.Items.{ArePorts, SpellsInterface, first_names, interface_port_faults, all_port_faults, interface_faults};
+ghost use Rattle.ipdl_forms.specs.Lists.{is_among, head_of, word_in, operands};
+ghost use Rattle.ipdl_forms.specs.Steps.{headed_faults, new_name_faults};
+ghost use Rattle.ipdl_forms.specs.Widths.{SpellsPort};
+
+use crate::fault::{DocFault, FormCause};
+use crate::reading::words::{not_a_form, read_width};
+use crate::seen::Seen;
+use ipdl_base::{List, Name, Pos};
+use ipdl_term::{Interface, Port};
+use ipdl_tree::{Node, Tree};
+use std::alloc::Global;
+
+// The name of a port, which no port before has.
+fn read_port_name(tree: &Tree, alloc: Global, seen: &Seen) -> Result<Name, DocFault>
+    ensures word { IfOk result (λ name. word_in (placed tree.now) ≡ Some name) }
+    ensures new { IfOk result (λ name. is_among seen.now name ≡ false) }
+    ensures clean { OnOk result (new_name_faults seen.now (placed tree.now) ≡ []) }
+    ensures first { IfErr result (λ fault. TellsFirst fault (new_name_faults seen.now (placed tree.now))) }
+{
+    let Node::Word(name) = &tree.node else {
+        return Err(not_a_form(tree.pos));
+    };
+    if seen.has(name) {
+        return Err(DocFault::Form {
+            pos: tree.pos,
+            cause: FormCause::Repeated,
+        });
+    }
+    Ok(name.copy(alloc)?)
+}
+
+// The port that the parts of a list tell, of which no port before has the name.
+#[tactic(auto, using(crate::proofs::Lists::tree_count_placed))]
+fn read_port_parts(parts: &[Tree], alloc: Global, seen: &Seen, list: Pos) -> Result<Port, DocFault>
+    ensures spelled { IfOk result (λ port. SpellsPort port.name port.width (group list.0 (all_placed parts.now))) }
+    ensures new { IfOk result (λ port. is_among seen.now port.name ≡ false) }
+    ensures clean { OnOk result (interface_port_faults seen.now (group list.0 (all_placed parts.now)) ≡ []) }
+    ensures first { IfErr result (λ fault. TellsFirst fault
+        (interface_port_faults seen.now (group list.0 (all_placed parts.now)))) }
+{
+    let [name, width] = parts else {
+        return Err(not_a_form(list));
+    };
+    let name = read_port_name(name, alloc, seen)?;
+    let width = read_width(width)?;
+    Ok(Port { name, width })
+}
+
+// The port that the tree tells, of which no port before has the name.
+fn read_port(tree: &Tree, alloc: Global, seen: &Seen) -> Result<Port, DocFault>
+    ensures spelled { IfOk result (λ port. SpellsPort port.name port.width (placed tree.now)) }
+    ensures new { IfOk result (λ port. is_among seen.now port.name ≡ false) }
+    ensures clean { OnOk result (interface_port_faults seen.now (placed tree.now) ≡ []) }
+    ensures first { IfErr result (λ fault. TellsFirst fault (interface_port_faults seen.now (placed tree.now))) }
+{
+    match &tree.node {
+        Node::Group(parts) => read_port_parts(parts.as_slice(), alloc, seen, tree.pos),
+        Node::Word(_) | Node::Number(_) | Node::Literal(_) => Err(not_a_form(tree.pos)),
+    }
+}
+
+// The ports that the trees tell, whose names are added to those that were seen.
+fn read_ports(trees: &[Tree], alloc: Global, seen: &mut Seen) -> Result<List<Port>, DocFault>
+    ensures spelled { IfOk result (λ ports. ArePorts seen.old ports (all_placed trees.now)) }
+    ensures names { OnOk result (seen.new ≡ seen.old ++ first_names (all_placed trees.now)) }
+    ensures clean { OnOk result (all_port_faults seen.old (all_placed trees.now) ≡ []) }
+    ensures first { IfErr result (λ fault. TellsFirst fault (all_port_faults seen.old (all_placed trees.now))) }
+{
+    let mut ports = List::empty(alloc);
+    for tree in trees {
+        let port = read_port(tree, alloc, seen)?;
+        seen.add(port.name.copy(alloc)?)?;
+        ports.push(port)?;
+    }
+    Ok(ports)
+}
+
+// The trees after the word in front of a list.
+fn ports_after<'a>(tree: &'a Tree, word: &str) -> Result<&'a [Tree], DocFault>
+    ensures head { OnOk result (head_of (placed tree.now) ≡ Some word.now) }
+    ensures ports { IfOk result (λ trees. operands (placed tree.now) ≡ all_placed trees.now) }
+    ensures clean { OnOk result (headed_faults word.now (placed tree.now) ≡ []) }
+    ensures first { IfErr result (λ fault. TellsFirst fault (headed_faults word.now (placed tree.now))) }
+{
+    let Node::Group(parts) = &tree.node else {
+        return Err(not_a_form(tree.pos));
+    };
+    let [head, trees @ ..] = parts.as_slice() else {
+        return Err(not_a_form(tree.pos));
+    };
+    let Node::Word(name) = &head.node else {
+        return Err(not_a_form(tree.pos));
+    };
+    if name.text() != word {
+        return Err(not_a_form(tree.pos));
+    }
+    Ok(trees)
+}
+
+// The interface that the two lists tell.
+pub(crate) fn read_interface(
+    inputs: &Tree,
+    outputs: &Tree,
+    alloc: Global,
+) -> Result<Interface, DocFault>
+    ensures spelled { IfOk result (λ interface. SpellsInterface interface (placed inputs.now) (placed outputs.now)) }
+    ensures clean { OnOk result (interface_faults (placed inputs.now) (placed outputs.now) ≡ []) }
+    ensures first { IfErr result (λ fault. TellsFirst fault (interface_faults (placed inputs.now) (placed outputs.now))) }
+{
+    let mut seen = Seen::empty(alloc);
+    let inputs = read_ports(ports_after(inputs, "inputs")?, alloc, &mut seen)?;
+    let outputs = read_ports(ports_after(outputs, "outputs")?, alloc, &mut seen)?;
+    Ok(Interface { inputs, outputs })
+}

@@ -1,0 +1,76 @@
+//! Numbers, lists and paths, in reading order.
+
+ghost use Rattle.std.specs.Prelude.{◌≡◌, [], true, None, Some, IfOk, OnOk, OnErr, IfErr};
+ghost use Rattle.ipdl_tree.specs.Trees.{place_of};
+ghost use Rattle.ipdl_tree.specs.Views.{placed, all_placed};
+ghost use Rattle.ipdl_forms.specs.declared.fault.FormCause.TheVariants.{NotAForm};
+ghost use Rattle.ipdl_forms.specs.Faults.{TellsFirst, form_fault};
+ghost use Rattle.ipdl_forms.specs.Lists.{number_in, is_list, parts_of, head_of, operands};
+ghost use Rattle.ipdl_forms.specs.Steps.{SpellsPath, number_faults, list_faults, path_faults};
+
+use crate::fault::DocFault;
+use crate::reading::words::not_a_form;
+use ipdl_base::{Name, Path};
+use ipdl_tree::{Node, Tree};
+use std::alloc::Global;
+
+// The number that the tree is, however great.
+pub(crate) fn read_count(tree: &Tree) -> Result<u32, DocFault>
+    ensures value { IfOk result (λ n. number_in (placed tree.now) ≡ Some n) }
+    ensures clean { OnOk result (number_faults (placed tree.now) ≡ []) }
+    ensures first { IfErr result (λ fault. TellsFirst fault (number_faults (placed tree.now))) }
+{
+    match &tree.node {
+        Node::Number(number) => Ok(*number),
+        Node::Word(_) | Node::Literal(_) | Node::Group(_) => Err(not_a_form(tree.pos)),
+    }
+}
+
+// The parts of the list that the tree is.
+pub(crate) fn list_parts(tree: &Tree) -> Result<&[Tree], DocFault>
+    ensures list { OnOk result (is_list (placed tree.now) ≡ true) }
+    ensures parts { IfOk result (λ parts. parts_of (placed tree.now) ≡ all_placed parts.now) }
+    ensures place { OnOk result (place_of (placed tree.now) ≡ tree.now.pos.0) }
+    ensures clean { OnOk result (list_faults (placed tree.now) ≡ []) }
+    ensures first { IfErr result (λ fault. TellsFirst fault (list_faults (placed tree.now))) }
+{
+    match &tree.node {
+        Node::Group(parts) => Ok(parts.as_slice()),
+        Node::Word(_) | Node::Number(_) | Node::Literal(_) => Err(not_a_form(tree.pos)),
+    }
+}
+
+// The word in front of the list that the tree is, and the parts after it.
+pub(crate) fn headed_list(tree: &Tree) -> Result<(&Name, &[Tree]), DocFault>
+    ensures head { IfOk result (λ r. head_of (placed tree.now) ≡ Some r.0.now) }
+    ensures operands { IfOk result (λ r. operands (placed tree.now) ≡ all_placed r.1.now) }
+    ensures place { place_of (placed tree.now) ≡ tree.now.pos.0 }
+    ensures headless { OnErr result (head_of (placed tree.now) ≡ None) }
+    ensures first { IfErr result (λ fault. fault ≡ form_fault NotAForm tree.now.pos.0) }
+{
+    let Node::Group(parts) = &tree.node else {
+        return Err(not_a_form(tree.pos));
+    };
+    let [head, operands @ ..] = parts.as_slice() else {
+        return Err(not_a_form(tree.pos));
+    };
+    match &head.node {
+        Node::Word(name) => Ok((name, operands)),
+        Node::Number(_) | Node::Literal(_) | Node::Group(_) => Err(not_a_form(tree.pos)),
+    }
+}
+
+// The path that the tree spells.
+pub(crate) fn read_path(tree: &Tree, alloc: Global) -> Result<Path, DocFault>
+    ensures spelled { IfOk result (λ path. SpellsPath path (placed tree.now)) }
+    ensures clean { OnOk result (path_faults (placed tree.now) ≡ []) }
+    ensures first { IfErr result (λ fault. TellsFirst fault (path_faults (placed tree.now))) }
+{
+    let parts = list_parts(tree)?;
+    let mut path = Path::root(alloc);
+    for part in parts {
+        let child = read_count(part)?;
+        path.push(child)?;
+    }
+    Ok(path)
+}

@@ -1,0 +1,144 @@
+//! The use of an assumption or a theorem, in reading order.
+
+ghost use Rattle.std.specs.Prelude.{◌≡◌, [], true, false, Some, IfOk, OnOk, IfErr};
+ghost use Rattle.ipdl_tree.specs.Views.{placed, all_placed};
+ghost use Rattle.ipdl_forms.specs.Documents.{move_of};
+ghost use Rattle.ipdl_forms.specs.Earlier.{earlier_of, statement_names};
+ghost use Rattle.ipdl_forms.specs.Faults.{TellsFirst};
+ghost use Rattle.ipdl_forms.specs.Lists.{tree_count, tree_at, word_in, is_among};
+ghost use Rattle.ipdl_forms.specs.Uses.{use_faults, two_name_faults, SpellsUse, SpellsPair};
+ghost use Rattle.ipdl_forms.specs.Steps.{ArePairs, dir_word, dir_faults, declared_faults, new_name_faults, pair_faults, all_pair_faults};
+
+use crate::document::Item;
+use crate::earlier::{Earlier, has_statement};
+use crate::fault::{DocFault, FormCause};
+use crate::reading::paths::{list_parts, read_path};
+use crate::reading::words::{not_a_form, read_name, word_of};
+use crate::seen::Seen;
+use ipdl_base::{List, Name, Pos};
+use ipdl_term::{Dir, Step};
+use ipdl_tree::{Node, Tree};
+use std::alloc::Global;
+
+// The name of an earlier assumption or theorem.
+fn read_statement(tree: &Tree, alloc: Global, items: &[Item]) -> Result<Name, DocFault>
+    ensures word { IfOk result (λ name. word_in (placed tree.now) ≡ Some name) }
+    ensures declared { IfOk result (λ name. is_among (statement_names items.now) name ≡ true) }
+    ensures clean { OnOk result (declared_faults (statement_names items.now) (placed tree.now) ≡ []) }
+    ensures first { IfErr result (λ fault. TellsFirst fault (declared_faults (statement_names items.now) (placed tree.now))) }
+{
+    let name = word_of(tree)?;
+    if !has_statement(items, name) {
+        return Err(DocFault::Form {
+            pos: tree.pos,
+            cause: FormCause::UnknownName,
+        });
+    }
+    Ok(name.copy(alloc)?)
+}
+
+// The direction that the tree tells.
+fn read_dir(tree: &Tree) -> Result<Dir, DocFault>
+    ensures word { IfOk result (λ dir. word_in (placed tree.now) ≡ Some (dir_word dir)) }
+    ensures clean { OnOk result (dir_faults (placed tree.now) ≡ []) }
+    ensures first { IfErr result (λ fault. TellsFirst fault (dir_faults (placed tree.now))) }
+{
+    let Node::Word(name) = &tree.node else {
+        return Err(not_a_form(tree.pos));
+    };
+    match name.text() {
+        "lr" => Ok(Dir::Lr),
+        "rl" => Ok(Dir::Rl),
+        _ => Err(not_a_form(tree.pos)),
+    }
+}
+
+// A name that is not among those that were seen.
+fn read_new_name(tree: &Tree, alloc: Global, seen: &Seen) -> Result<Name, DocFault>
+    ensures word { IfOk result (λ name. word_in (placed tree.now) ≡ Some name) }
+    ensures new { IfOk result (λ name. is_among seen.now name ≡ false) }
+    ensures clean { OnOk result (new_name_faults seen.now (placed tree.now) ≡ []) }
+    ensures first { IfErr result (λ fault. TellsFirst fault (new_name_faults seen.now (placed tree.now))) }
+{
+    let name = word_of(tree)?;
+    if seen.has(name) {
+        return Err(DocFault::Form {
+            pos: tree.pos,
+            cause: FormCause::Repeated,
+        });
+    }
+    Ok(name.copy(alloc)?)
+}
+
+// The pair of two parts of a list, whose first name was not seen.
+#[tactic(auto, using(crate::proofs::Lists::tree_count_placed))]
+fn read_two(parts: &[Tree], alloc: Global, seen: &Seen, list: Pos) -> Result<(Name, Name), DocFault>
+    ensures count { OnOk result (tree_count (all_placed parts.now) ≡ 2) }
+    ensures from { IfOk result (λ pair. word_in (tree_at 0 (all_placed parts.now)) ≡ Some pair.0) }
+    ensures new { IfOk result (λ pair. is_among seen.now pair.0 ≡ false) }
+    ensures to { IfOk result (λ pair. word_in (tree_at 1 (all_placed parts.now)) ≡ Some pair.1) }
+    ensures clean { OnOk result (two_name_faults seen.now list.0 (all_placed parts.now) ≡ []) }
+    ensures first { IfErr result (λ fault. TellsFirst fault (two_name_faults seen.now list.0 (all_placed parts.now))) }
+{
+    let [from, to] = parts else {
+        return Err(not_a_form(list));
+    };
+    let from = read_new_name(from, alloc, seen)?;
+    let to = read_name(to, alloc)?;
+    Ok((from, to))
+}
+
+// A pair whose first name was not seen.
+fn read_pair(tree: &Tree, alloc: Global, seen: &Seen) -> Result<(Name, Name), DocFault>
+    ensures spelled { IfOk result (λ pair. SpellsPair seen.now pair (placed tree.now)) }
+    ensures clean { OnOk result (pair_faults seen.now (placed tree.now) ≡ []) }
+    ensures first { IfErr result (λ fault. TellsFirst fault (pair_faults seen.now (placed tree.now))) }
+{
+    let parts = list_parts(tree)?;
+    read_two(parts, alloc, seen, tree.pos)
+}
+
+// The pairs that the trees spell, of which no two have one first name.
+fn read_pairs(parts: &[Tree], alloc: Global) -> Result<List<(Name, Name)>, DocFault>
+    ensures spelled { IfOk result (λ pairs. ArePairs [] pairs (all_placed parts.now)) }
+    ensures clean { OnOk result (all_pair_faults [] (all_placed parts.now) ≡ []) }
+    ensures first { IfErr result (λ fault. TellsFirst fault (all_pair_faults [] (all_placed parts.now))) }
+{
+    let mut seen = Seen::empty(alloc);
+    let mut pairs = List::empty(alloc);
+    for part in parts {
+        let pair = read_pair(part, alloc, &seen)?;
+        seen.add(pair.0.copy(alloc)?)?;
+        pairs.push(pair)?;
+    }
+    Ok(pairs)
+}
+
+// The step that the parts after `use` spell.
+#[tactic(auto, using(crate::proofs::Lists::tree_count_placed))]
+pub(crate) fn read_use(
+    operands: &[Tree],
+    alloc: Global,
+    earlier: &Earlier,
+    list: Pos,
+) -> Result<Step, DocFault>
+    ensures spelled { IfOk result (λ step. SpellsUse (earlier_of earlier.now) (move_of step) (all_placed operands.now)) }
+    ensures clean { OnOk result (use_faults (earlier_of earlier.now) list.0 (all_placed operands.now) ≡ []) }
+    ensures first { IfErr result (λ fault. TellsFirst fault
+        (use_faults (earlier_of earlier.now) list.0 (all_placed operands.now))) }
+{
+    let [name, path, dir, pairs] = operands else {
+        return Err(not_a_form(list));
+    };
+    let name = read_statement(name, alloc, earlier.items)?;
+    let path = read_path(path, alloc)?;
+    let dir = read_dir(dir)?;
+    let parts = list_parts(pairs)?;
+    let pairs = read_pairs(parts, alloc)?;
+    Ok(Step::Invoke {
+        path,
+        name,
+        dir,
+        pairs,
+    })
+}

@@ -1,93 +1,101 @@
--- Two bodies have no differing place exactly where they are the same.
-use Rattle.std.proofs.Common.{◌≡◌, ℕ, Bool, true, false, not, List, [], ◌∷◌, map, drop, get_or, Option, Some, None, refl, ap, ap₂, arith}
-use Rattle.std.proofs.lemmas.Slice.Eq.{bytes_eq-Decides}
-use Rattle.std.proofs.lemmas.Bool.Decides.{same_from_decides}
+-- Two terms have no differing place exactly where they are the same.
+use Rattle.std.proofs.Common.{◌≡◌, ℕ, Bool, true, false, ◌&&◌, nat_eq, List, Option, Some, None, refl, sym, ap, ap₂, ◌∙◌}
+use Rattle.std.specs.Prelude.{◌↔◌, is_none, bytes_eq}
+use Rattle.std.specs.Option.{option_or}
 use Rattle.ipdl_base.specs.Bits.{same_bits}
-use Rattle.ipdl_base.specs.BitsLaws.{same_bits-Decides}
-use Rattle.std.specs.Prelude.{bytes_eq, if◌then◌else◌}
-use Rattle.ipdl_top.specs.declared.document.Assignment.{Assignment}
-use Rattle.ipdl_top.specs.declared.document.Body.{Body}
-use Rattle.ipdl_top.specs.Documents.{bit_digit}
-use Rattle.ipdl_top.specs.Chains.{Head, body_heads, first_difference, differing_place}
+use Rattle.ipdl_term.specs.Terms.{Expression, literal, variable, outer, application, exclusive, conjunction, negation, concatenation, segment, equality, selection, Reaction, returning, flipping, reading, branching, binding, Protocol, nil, assignment, parallel, hiding}
+use Rattle.ipdl_term.specs.Same.{same_expression, same_reaction, same_protocol, same_protocol-sound, same_protocol-Decides}
+use Rattle.ipdl_top.specs.Ends.{below, here_unless, differing_in_expression, differing_in_reaction, differing_place}
 
-bytes_eq-same : (xs : List ℕ) → bytes_eq xs xs ≡ true
-bytes_eq-same xs = (bytes_eq-Decides xs xs).1 refl
+-- ---- whether there is a place
 
--- ---- the same body has no differing place
+is_none-below : (child : ℕ) (place : Option (List ℕ)) → is_none (below child place) ≡ is_none place
+is_none-below child None = refl
+is_none-below child (Some place) = refl
 
-first_difference-same : (hs : List Head) → first_difference hs hs ≡ None
-first_difference-same [] = refl
-first_difference-same (h ∷ hs) = rw bytes_eq-same (first_difference-same hs)
+is_none-option_or : (first later : Option (List ℕ)) → is_none (option_or first later) ≡ (is_none first && is_none later)
+is_none-option_or None later = refl
+is_none-option_or (Some place) later = refl
 
-pub differing_place-same : (b c : Body) → b ≡ c → differing_place b c ≡ None
-unfolding differing_place
-differing_place-same b c e = rw e (first_difference-same (body_heads c))
+is_none-here_unless : (test : Bool) (later : Option (List ℕ)) → is_none (here_unless test later) ≡ (test && is_none later)
+is_none-here_unless true later = refl
+is_none-here_unless false later = refl
 
--- ---- bodies with no differing place are the same
+is_none-leaf : (test : Bool) → is_none (here_unless test None) ≡ test
+is_none-leaf true = refl
+is_none-leaf false = refl
 
-bit_digit_injective : (x y : Bool) → bit_digit x ≡ bit_digit y → x ≡ y
-bit_digit_injective true true e = refl
-bit_digit_injective false false e = refl
-bit_digit_injective true false e = absurd (omega arith)
-bit_digit_injective false true e = absurd (omega arith)
+-- a child
+in_child : (child : ℕ) (x : Option (List ℕ)) (s : Bool) → is_none x ≡ s → is_none (below child x) ≡ s
+in_child child x s e = is_none-below child x ∙ e
 
-pub map-bit_digit_injective : (xs ys : List Bool) → map bit_digit xs ≡ map bit_digit ys → xs ≡ ys
-map-bit_digit_injective [] [] e = refl
-map-bit_digit_injective [] (y ∷ ys) e = cc
-map-bit_digit_injective (x ∷ xs) [] e = cc
-map-bit_digit_injective (x ∷ xs) (y ∷ ys) e =
-    let first : x ≡ y = bit_digit_injective x y (ap (λ l. get_or l 0 0) e) in
-    let rest : xs ≡ ys = map-bit_digit_injective xs ys (ap (drop 1) e) in
-    cc
+-- two children, and three
+in_two : (x y : Option (List ℕ)) (s t : Bool) → is_none x ≡ s → is_none y ≡ t → is_none (option_or (below 0 x) (below 1 y)) ≡ (s && t)
+in_two x y s t e f =
+    is_none-option_or (below 0 x) (below 1 y) ∙ ap₂ (λ b c. b && c) (in_child 0 x s e) (in_child 1 y t f)
 
--- two texts that are passed over are one
-passed : (x y : List ℕ) (rest : Option (List ℕ)) (place : List ℕ) → (if bytes_eq x y then rest else Some place) ≡ None → (x ≡ y) × (rest ≡ None)
-passed x y rest place = cases (bytes_eq x y) (bytes_eq-Decides x y).0
-  where
-    cases : (b : Bool) → (b ≡ true → x ≡ y) → (if b then rest else Some place) ≡ None → (x ≡ y) × (rest ≡ None)
-    cases true same e = (same refl, e)
-    cases false same e = cc
+in_three : (x y z : Option (List ℕ)) (s t u : Bool) → is_none x ≡ s → is_none y ≡ t → is_none z ≡ u → is_none (option_or (below 0 x) (option_or (below 1 y) (below 2 z))) ≡ (s && (t && u))
+in_three x y z s t u e f g =
+    is_none-option_or (below 0 x) (option_or (below 1 y) (below 2 z))
+    ∙ ap₂ (λ b c. b && c) (in_child 0 x s e)
+    (is_none-option_or (below 1 y) (below 2 z) ∙ ap₂ (λ b c. b && c) (in_child 1 y t f) (in_child 2 z u g))
 
--- the fields tell a body
-body_same : (b c : Body) → b.first.channel ≡ c.first.channel → b.first.literal ≡ c.first.literal → b.second.channel ≡ c.second.channel → b.second.literal ≡ c.second.literal → b ≡ c
-body_same b c first_channel first_literal second_channel second_literal =
-    let assignment : List ℕ → List Bool → Assignment = λ channel literal. record { channel = channel; literal = literal } in
-    let body : Assignment → Assignment → Body = λ first second. record { first = first; second = second } in
-    ap₂ body (ap₂ assignment first_channel first_literal) (ap₂ assignment second_channel second_literal)
+-- a test before what follows
+after_test : (test : Bool) (x : Option (List ℕ)) (s : Bool) → is_none x ≡ s → is_none (here_unless test x) ≡ (test && s)
+after_test test x s e = is_none-here_unless test x ∙ ap (λ b. test && b) e
 
-pub differing_place-none : (b c : Body) → differing_place b c ≡ None → b ≡ c
-unfolding differing_place
-differing_place-none b c e =
-    let first_channel = passed b.first.channel c.first.channel _ _ e in
-    let first_literal = passed (map bit_digit b.first.literal) (map bit_digit c.first.literal) _ _ first_channel.1 in
-    let second_channel = passed b.second.channel c.second.channel _ _ first_literal.1 in
-    let second_literal = passed (map bit_digit b.second.literal) (map bit_digit c.second.literal) _ _ second_channel.1 in
-    body_same b c first_channel.0 (map-bit_digit_injective _ _ first_literal.0) second_channel.0 (map-bit_digit_injective _ _ second_literal.0)
+-- ---- there is none exactly where the terms are the same
 
--- ---- the place by the tests of the parts
+is_none-differing_in_expression : (a b : Expression) → is_none (differing_in_expression a b) ≡ same_expression a b
+is_none-differing_in_expression (literal v) (literal w) = is_none-leaf (same_bits v w)
+is_none-differing_in_expression (variable m) (variable n) = is_none-leaf (nat_eq m n)
+is_none-differing_in_expression (outer m) (outer n) = is_none-leaf (nat_eq m n)
+is_none-differing_in_expression (application f a) (application g b) =
+    after_test (nat_eq f g) _ _ (in_child 0 _ _ (is_none-differing_in_expression a b))
+is_none-differing_in_expression (exclusive a b) (exclusive c d) =
+    in_two _ _ _ _ (is_none-differing_in_expression a c) (is_none-differing_in_expression b d)
+is_none-differing_in_expression (conjunction a b) (conjunction c d) =
+    in_two _ _ _ _ (is_none-differing_in_expression a c) (is_none-differing_in_expression b d)
+is_none-differing_in_expression (negation a) (negation b) = in_child 0 _ _ (is_none-differing_in_expression a b)
+is_none-differing_in_expression (concatenation a b) (concatenation c d) =
+    in_two _ _ _ _ (is_none-differing_in_expression a c) (is_none-differing_in_expression b d)
+is_none-differing_in_expression (segment i m a) (segment j n b) =
+    after_test (nat_eq i j) _ _ (after_test (nat_eq m n) _ _ (in_child 0 _ _ (is_none-differing_in_expression a b)))
+is_none-differing_in_expression (equality a b) (equality c d) =
+    in_two _ _ _ _ (is_none-differing_in_expression a c) (is_none-differing_in_expression b d)
+is_none-differing_in_expression (selection a b c) (selection d e f) =
+    in_three _ _ _ _ _ _ (is_none-differing_in_expression a d) (is_none-differing_in_expression b e) (is_none-differing_in_expression c f)
+is_none-differing_in_expression _ _ = refl
 
-abbrev pub place_by_tests : (channel literal channel' literal' : Bool) → Option (List ℕ)
-place_by_tests true literal channel' literal' = Some (0 ∷ [])
-place_by_tests false true channel' literal' = Some (0 ∷ 0 ∷ 0 ∷ [])
-place_by_tests false false true literal' = Some (1 ∷ [])
-place_by_tests false false false true = Some (1 ∷ 0 ∷ 0 ∷ [])
-place_by_tests false false false false = None
+is_none-differing_in_reaction : (r s : Reaction) → is_none (differing_in_reaction r s) ≡ same_reaction r s
+is_none-differing_in_reaction (returning a) (returning b) = in_child 0 _ _ (is_none-differing_in_expression a b)
+is_none-differing_in_reaction (flipping v) (flipping w) = is_none-leaf (nat_eq v w)
+is_none-differing_in_reaction (reading c) (reading d) = is_none-leaf (bytes_eq c d)
+is_none-differing_in_reaction (branching a r s) (branching b t u) =
+    in_three _ _ _ _ _ _ (is_none-differing_in_expression a b) (is_none-differing_in_reaction r t) (is_none-differing_in_reaction s u)
+is_none-differing_in_reaction (binding v r s) (binding w t u) =
+    after_test (nat_eq v w) _ _ (in_two _ _ _ _ (is_none-differing_in_reaction r t) (is_none-differing_in_reaction s u))
+is_none-differing_in_reaction _ _ = refl
 
-bytes_eq-bit_digits : (xs ys : List Bool) → bytes_eq (map bit_digit xs) (map bit_digit ys) ≡ same_bits xs ys
-bytes_eq-bit_digits xs ys =
-    let texts = bytes_eq-Decides (map bit_digit xs) (map bit_digit ys) in
-    same_from_decides (bytes_eq (map bit_digit xs) (map bit_digit ys)) (same_bits xs ys)
-    (λ t. map-bit_digit_injective xs ys (texts.0 t), λ e. texts.1 (ap (map bit_digit) e)) (same_bits-Decides xs ys)
+pub is_none-differing_place : (p q : Protocol) → is_none (differing_place p q) ≡ same_protocol p q
+is_none-differing_place nil nil = refl
+is_none-differing_place (assignment c r) (assignment d s) =
+    after_test (bytes_eq c d) _ _ (in_child 0 _ _ (is_none-differing_in_reaction r s))
+is_none-differing_place (parallel p q) (parallel r s) =
+    in_two _ _ _ _ (is_none-differing_place p r) (is_none-differing_place q s)
+is_none-differing_place (hiding c v p) (hiding d w q) =
+    after_test (bytes_eq c d) _ _ (after_test (nat_eq v w) _ _ (in_child 0 _ _ (is_none-differing_place p q)))
+is_none-differing_place _ _ = refl
 
-tests_choose : (p q r s : Bool) → (if p then (if q then (if r then (if s then None else Some (1 ∷ 0 ∷ 0 ∷ [])) else Some (1 ∷ [])) else Some (0 ∷ 0 ∷ 0 ∷ [])) else Some (0 ∷ [])) ≡ place_by_tests (not p) (not q) (not r) (not s)
-tests_choose true true true true = refl
-tests_choose true true true false = refl
-tests_choose true true false s = refl
-tests_choose true false r s = refl
-tests_choose false q r s = refl
+none_from : (place : Option (List ℕ)) → is_none place ≡ true → place ≡ None
+none_from None e = refl
+none_from (Some place) e = cc
 
-pub differing_place-tests : (b c : Body) → differing_place b c ≡ place_by_tests (not (bytes_eq b.first.channel c.first.channel)) (not (same_bits b.first.literal c.first.literal)) (not (bytes_eq b.second.channel c.second.channel)) (not (same_bits b.second.literal c.second.literal))
-unfolding differing_place
-differing_place-tests b c =
-    rw (← bytes_eq-bit_digits b.first.literal c.first.literal, ← bytes_eq-bit_digits b.second.literal c.second.literal)
-    (tests_choose (bytes_eq b.first.channel c.first.channel) (bytes_eq (map bit_digit b.first.literal) (map bit_digit c.first.literal)) (bytes_eq b.second.channel c.second.channel) (bytes_eq (map bit_digit b.second.literal) (map bit_digit c.second.literal)))
+pub differing_place-none : (p q : Protocol) → differing_place p q ≡ None → p ≡ q
+differing_place-none p q e = same_protocol-sound p q (sym (is_none-differing_place p q) ∙ ap is_none e)
+
+pub differing_place-same : (p q : Protocol) → p ≡ q → differing_place p q ≡ None
+differing_place-same p q e = none_from (differing_place p q) (is_none-differing_place p q ∙ (same_protocol-Decides p q).1 e)
+
+pub differs_nowhere_exactly : (p q : Protocol) → (differing_place p q ≡ None) ↔ (p ≡ q)
+differs_nowhere_exactly p q = (differing_place-none p q, differing_place-same p q)

@@ -1,11 +1,12 @@
 pub mod Transfers
 pub mod Runs
+pub mod Networks
 pub mod Differences
-pub mod Replies
+pub mod Spelled
+pub mod Bodies
 pub mod Texts
-mod ReadingLaws
-mod NameLaws
-mod WidthLaws
-mod LiteralLaws
-mod FormLaws
-mod OperatorLaws
+pub mod Verdicts
+pub mod Replies
+pub mod ItemPlaces
+pub mod Refused
+pub mod Worked

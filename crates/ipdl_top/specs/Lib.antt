@@ -1,9 +1,11 @@
 pub mod Transfers
 pub mod Stops
 pub mod Words
-pub mod Documents
+pub mod Lines
+pub mod Ends
+pub mod Lookups
+pub mod Built
 pub mod Chains
 pub mod Replies
 pub mod Runs
 pub mod Examples
-pub mod Reading

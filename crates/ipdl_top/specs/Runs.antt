@@ -1,13 +1,16 @@
 -- What a run says of its words, its source and its sink.
 use Rattle.std.specs.Prelude.{◌≡◌, ℕ, ◌≤◌, List, Option, Some, ◌⊎◌, ⊤}
+use Rattle.std.specs.Io.KnownBytes.{IsAtEnd}
 use Rattle.ipdl_io.specs.Faults.{MayHaveRisen}
-use Rattle.ipdl_top.specs.declared.document.Document.{Document}
+use Rattle.ipdl_tree.specs.Spelling.{SpellsSource}
+use Rattle.ipdl_tree.specs.Trees.{Placed}
+use Rattle.ipdl_forms.specs.Documents.{Document}
 use Rattle.ipdl_top.specs.declared.status.Status.{Status}
 use Rattle.ipdl_top.specs.declared.status.Status.TheVariants.{Accepted, WrongStep, BadSource, Usage, ReadFault, WriteFault, Memory, OverLimit}
 use Rattle.ipdl_top.specs.Transfers.{Took, TookFront}
-use Rattle.ipdl_top.specs.Documents.{spelling, IsBuilt}
-use Rattle.ipdl_top.specs.Chains.{Meets, document_text}
-use Rattle.ipdl_top.specs.Replies.{Reply, IsReply}
+use Rattle.ipdl_top.specs.Built.{AreBuilt}
+use Rattle.ipdl_top.specs.Chains.{AllMeet, accepted_text}
+use Rattle.ipdl_top.specs.Replies.{Reply, IsRead, IsReply}
 
 -- a status that the words and the bytes decide
 abbrev pub IsVerdict : Status → Type 0
@@ -47,7 +50,14 @@ abbrev pub IsRepliedFront : List (List ℕ) → Option (List ℕ) → Option (Li
 IsRepliedFront words left taken taken' =
     (bytes : List ℕ) → left ≡ Some bytes → (reply : Reply) × IsReply words bytes reply × TookFront taken taken' reply.text
 
--- the source's bytes spell a document whose ends meet, and its chain was written
-abbrev pub IsAcceptedDocument : Option (List ℕ) → Option (List ℕ) → Option (List ℕ) → Type 0
-IsAcceptedDocument left taken taken' =
-    (bytes : List ℕ) → left ≡ Some bytes → (d : Document) × IsBuilt d × (bytes ≡ spelling d) × Meets d × Took taken taken' (document_text d)
+-- a document that is built, and all of whose ends meet
+pub record IsAcceptable (d : Document) : Type 0 where
+  pub built : AreBuilt d.entries d.entries
+  pub meeting : AllMeet d.entries d.entries
+
+-- The source is at its end. The bytes that it told spell a tree of a document that is built and whose ends meet, and
+-- the text of its chains was written.
+abbrev pub IsAcceptedDocument : (left left' taken taken' : Option (List ℕ)) → Type 0
+IsAcceptedDocument left left' taken taken' =
+    IsAtEnd left' × ((bytes : List ℕ) → left ≡ Some bytes → (t : Placed) × (d : Document) × SpellsSource t bytes
+    × IsRead d t × IsAcceptable d × Took taken taken' (accepted_text d))

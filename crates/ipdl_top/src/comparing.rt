@@ -1,40 +1,129 @@
-ghost use Rattle.std.specs.Prelude.{◌≡◌, IfOk, Some};
-ghost use Rattle.ipdl_top.specs.Chains.{body_of, differing_place};
+// The first place at which two terms differ.
 
-use crate::document::{Assignment, Body};
-use ipdl_base::{NoMemory, Path};
+ghost use Rattle.std.specs.Prelude.{◌≡◌, [], IfOk};
+ghost use Rattle.ipdl_term.specs.Views.{expression_of, reaction_of, protocol_of};
+ghost use Rattle.ipdl_top.specs.Ends.{exchanged, below, differing_in_expression, differing_in_reaction, differing_place};
+
+use ipdl_base::{List, NoMemory};
+use ipdl_term::{Expr, Proto, React};
 use std::alloc::Global;
 
-// The place of these child numbers.
-fn place(alloc: Global, children: &[u32]) -> Result<Option<Path>, NoMemory>
-    ensures { IfOk result (λ place. place ≡ Some children.now) }
+// A place, if there is one.
+type Found = Option<List<u32>>;
+
+// The protocol with the two parts of a `par` exchanged.
+pub(crate) fn exchanged(proto: Proto) -> Proto
+    ensures { protocol_of result ≡ exchanged (protocol_of proto) }
 {
-    let mut place = Path::root(alloc);
-    for child in children {
-        place.push(*child)?;
+    match proto {
+        Proto::Par(p, q) => Proto::Par(q, p),
+        other => other,
     }
-    Ok(Some(place))
 }
 
-/// The first place in preorder where the body of these two parts differs from another body.
-#[tactic(auto, unfolding(crate::specs::Chains::differing_place))]
-pub fn differing_place(
-    alloc: Global,
-    first: &Assignment,
-    second: &Assignment,
-    other: &Body,
-) -> Result<Option<Path>, NoMemory>
-    ensures { IfOk result (λ place. place ≡ differing_place (body_of first.now second.now) other.now) }
+// The place in the child of this number.
+fn below(child: u32, place: Found) -> Result<Found, NoMemory>
+    ensures { IfOk result (λ r. r ≡ below child place) }
 {
-    if first.channel != other.first.channel {
-        place(alloc, &[0])
-    } else if first.literal != other.first.literal {
-        place(alloc, &[0, 0, 0])
-    } else if second.channel != other.second.channel {
-        place(alloc, &[1])
-    } else if second.literal != other.second.literal {
-        place(alloc, &[1, 0, 0])
-    } else {
-        Ok(None)
+    match place {
+        None => Ok(None),
+        Some(place) => {
+            let mut children = place.into_vec();
+            children.insert(0, child)?;
+            Ok(Some(List::from_vec(children)))
+        }
+    }
+}
+
+// The place of the whole term.
+fn here(alloc: Global) -> Found
+    ensures { result ≡ Some [] }
+{
+    Some(List::empty(alloc))
+}
+
+// The first place at which the expressions differ.
+fn differing_in_expr(alloc: Global, left: &Expr, right: &Expr) -> Result<Found, NoMemory>
+    ensures { IfOk result (λ r. r ≡ differing_in_expression (expression_of left.now) (expression_of right.now)) }
+{
+    match (left, right) {
+        (Expr::Lit(a), Expr::Lit(b)) if *a == *b => Ok(None),
+        (Expr::Var(m), Expr::Var(n)) if *m == *n => Ok(None),
+        (Expr::Outer(m), Expr::Outer(n)) if *m == *n => Ok(None),
+        (Expr::Apply(f, a), Expr::Apply(g, b)) if *f == *g => {
+            below(0, differing_in_expr(alloc, a, b)?)
+        }
+        (Expr::Not(a), Expr::Not(b)) => below(0, differing_in_expr(alloc, a, b)?),
+        (Expr::Cut(i, m, a), Expr::Cut(j, n, b)) if *i == *j && *m == *n => {
+            below(0, differing_in_expr(alloc, a, b)?)
+        }
+        (Expr::Xor(a, b), Expr::Xor(c, d))
+        | (Expr::And(a, b), Expr::And(c, d))
+        | (Expr::Cat(a, b), Expr::Cat(c, d))
+        | (Expr::Same(a, b), Expr::Same(c, d)) => {
+            if let Some(place) = differing_in_expr(alloc, a, c)? {
+                return below(0, Some(place));
+            }
+            below(1, differing_in_expr(alloc, b, d)?)
+        }
+        (Expr::Mux(a, b, c), Expr::Mux(d, e, f)) => {
+            if let Some(place) = differing_in_expr(alloc, a, d)? {
+                return below(0, Some(place));
+            }
+            if let Some(place) = differing_in_expr(alloc, b, e)? {
+                return below(1, Some(place));
+            }
+            below(2, differing_in_expr(alloc, c, f)?)
+        }
+        _ => Ok(here(alloc)),
+    }
+}
+
+// The first place at which the reactions differ.
+fn differing_in_react(alloc: Global, left: &React, right: &React) -> Result<Found, NoMemory>
+    ensures { IfOk result (λ r. r ≡ differing_in_reaction (reaction_of left.now) (reaction_of right.now)) }
+{
+    match (left, right) {
+        (React::Ret(a), React::Ret(b)) => below(0, differing_in_expr(alloc, a, b)?),
+        (React::Flip(v), React::Flip(w)) if *v == *w => Ok(None),
+        (React::Read(c), React::Read(d)) if *c == *d => Ok(None),
+        (React::Cond(a, r, s), React::Cond(b, t, u)) => {
+            if let Some(place) = differing_in_expr(alloc, a, b)? {
+                return below(0, Some(place));
+            }
+            if let Some(place) = differing_in_react(alloc, r, t)? {
+                return below(1, Some(place));
+            }
+            below(2, differing_in_react(alloc, s, u)?)
+        }
+        (React::Bind(v, r, s), React::Bind(w, t, u)) if *v == *w => {
+            if let Some(place) = differing_in_react(alloc, r, t)? {
+                return below(0, Some(place));
+            }
+            below(1, differing_in_react(alloc, s, u)?)
+        }
+        _ => Ok(here(alloc)),
+    }
+}
+
+// The first place in preorder at which the protocols differ.
+pub(crate) fn differing_place(alloc: Global, left: &Proto, right: &Proto) -> Result<Found, NoMemory>
+    ensures { IfOk result (λ r. r ≡ differing_place (protocol_of left.now) (protocol_of right.now)) }
+{
+    match (left, right) {
+        (Proto::Nil, Proto::Nil) => Ok(None),
+        (Proto::Out(c, r), Proto::Out(d, s)) if *c == *d => {
+            below(0, differing_in_react(alloc, r, s)?)
+        }
+        (Proto::Par(p, q), Proto::Par(r, s)) => {
+            if let Some(place) = differing_place(alloc, p, r)? {
+                return below(0, Some(place));
+            }
+            below(1, differing_place(alloc, q, s)?)
+        }
+        (Proto::Hide(c, v, p), Proto::Hide(d, w, q)) if *c == *d && *v == *w => {
+            below(0, differing_place(alloc, p, q)?)
+        }
+        _ => Ok(here(alloc)),
     }
 }

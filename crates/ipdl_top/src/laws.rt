@@ -1,16 +1,12 @@
 //! Laws about the definitions: each function does nothing, and its contract is the law.
 ghost use Rattle.std.specs.Prelude.{◌≡◌, ◌↔◌, ℕ, List, None, Some, [], ◌∷◌, codes};
-ghost use Rattle.ipdl_top.specs.declared.document.Body.{Body};
-ghost use Rattle.ipdl_top.specs.declared.document.Document.{Document};
-ghost use Rattle.ipdl_top.specs.Documents.{IsBuilt, spelling};
-ghost use Rattle.ipdl_top.specs.Chains.{differing_place, document_text, wrong_ends_line};
-ghost use Rattle.ipdl_top.specs.Replies.{Reply, IsReply};
-ghost use Rattle.ipdl_top.specs.Examples.{worked_document, worked_body, other_body};
-
-/// One spelling belongs to one document.
-pub fn spelling_is_of_one_document()
-    ensures { (d e : Document) → IsBuilt d → IsBuilt e → spelling d ≡ spelling e → d ≡ e }
-{}
+ghost use Rattle.ipdl_term.specs.Terms.{Protocol};
+ghost use Rattle.ipdl_tree.specs.Spelling.{tree_text};
+ghost use Rattle.ipdl_top.specs.Ends.{differing_place};
+ghost use Rattle.ipdl_top.specs.Chains.{accepted_text, ends_line};
+ghost use Rattle.ipdl_top.specs.Replies.{Reply, IsRead, IsReply};
+ghost use Rattle.ipdl_top.specs.Runs.{IsAcceptable};
+ghost use Rattle.ipdl_top.specs.Examples.{worked_document, worked_body, other_body, worked_tree};
 
 /// Words and bytes have one reply at most. So it makes no difference in what pieces the source
 /// gave the bytes, or the sink took the text.
@@ -18,15 +14,17 @@ pub fn words_and_bytes_have_one_reply()
     ensures { (words : List (List ℕ)) (bytes : List ℕ) (r s : Reply) → IsReply words bytes r → IsReply words bytes s → r ≡ s }
 {}
 
-/// Two bodies differ nowhere exactly where they are one.
-pub fn bodies_differ_somewhere_or_are_one()
-    ensures { (b c : Body) → (differing_place b c ≡ None) ↔ (b ≡ c) }
+/// Two protocols differ nowhere exactly where they are one.
+pub fn protocols_differ_somewhere_or_are_one()
+    ensures { (p q : Protocol) → (differing_place p q ≡ None) ↔ (p ≡ q) }
 {}
 
 /// The worked example, computed from the definitions.
 pub fn worked_example()
-    ensures spelled { spelling worked_document ≡ codes "(ipdl 1 (protocol A (inputs) (outputs (a 1) (b 1)) (par (out a (ret #0)) (out b (ret #1)))) (protocol B (inputs) (outputs (a 1) (b 1)) (par (out b (ret #1)) (out a (ret #0)))) (theorem t A B (left (comm ())) (right)))" }
-    ensures printed { document_text worked_document ≡ codes "theorem t A B\n0 (par (out a (ret #0)) (out b (ret #1)))\nby rule lr comm ()\n1 (par (out b (ret #1)) (out a (ret #0)))\nexact 1 assumed 0\naccepted theorems 1 neighbours 1\n" }
+    ensures written { tree_text worked_tree ≡ codes "(ipdl 1 (protocol A (inputs) (outputs (a 1) (b 1)) (par (out a (ret #0)) (out b (ret #1)))) (protocol B (inputs) (outputs (a 1) (b 1)) (par (out b (ret #1)) (out a (ret #0)))) (theorem t A B (left (comm ())) (right)))" }
+    ensures read { IsRead worked_document worked_tree }
+    ensures acceptable { IsAcceptable worked_document }
+    ensures printed { accepted_text worked_document ≡ codes "theorem t A B\n0 (par (out a (ret #0)) (out b (ret #1)))\nby rule lr comm ()\n1 (par (out b (ret #1)) (out a (ret #0)))\nexact 1 assumed 0\naccepted theorems 1 neighbours 1\n" }
     ensures differs { differing_place worked_body other_body ≡ Some (0 ∷ 0 ∷ 0 ∷ []) }
-    ensures refused { wrong_ends_line (codes "t") (0 ∷ 0 ∷ 0 ∷ []) ≡ codes "wrong t ends (0 0 0)\n" }
+    ensures refused { ends_line (codes "t") (0 ∷ 0 ∷ 0 ∷ []) ≡ codes "wrong t ends (0 0 0)\n" }
 {}

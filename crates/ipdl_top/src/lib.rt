@@ -2,10 +2,12 @@
 //! source to a status and the bytes that a sink takes.
 #![tactic(auto)]
 
+mod answering;
+mod building;
 mod comparing;
-mod document;
+mod finding;
 mod laws;
-mod reading;
+mod refusing;
 mod runner;
 mod status;
 #[cfg(test)]
@@ -14,8 +16,7 @@ mod transfer;
 mod writing;
 
 pub use laws::{
-    bodies_differ_somewhere_or_are_one, spelling_is_of_one_document,
-    words_and_bytes_have_one_reply, worked_example,
+    protocols_differ_somewhere_or_are_one, words_and_bytes_have_one_reply, worked_example,
 };
 pub use runner::run;
 pub use status::Status;

@@ -1,30 +1,21 @@
-ghost use Rattle.std.specs.Prelude.{◌≡◌, ◌≢◌, ◌≤◌, ◌↔◌, ◌+◌, IsTrue, IfOk, Some, List, ℕ, length, map, string_bytes};
+ghost use Rattle.std.specs.Prelude.{◌≡◌, ◌≢◌, ◌≤◌, ◌↔◌, ◌⊎◌, IsTrue, Some, List, ℕ, length, map, string_bytes};
 ghost use Rattle.std.specs.Io.KnownBytes.{IsAtEnd};
 ghost use Rattle.ipdl_io.specs.Faults.{MayHaveRisen, HasRisen, DidNotRise};
-ghost use Rattle.ipdl_top.specs.declared.document.Document.{Document};
+ghost use Rattle.ipdl_tree.specs.Spelling.{SpellsSource};
+ghost use Rattle.ipdl_tree.specs.Trees.{Placed};
+ghost use Rattle.ipdl_forms.specs.Documents.{Document};
 ghost use Rattle.ipdl_top.specs.Words.{check_words};
-ghost use Rattle.ipdl_top.specs.Documents.{IsBuilt, spelling};
-ghost use Rattle.ipdl_top.specs.Chains.{Meets, document_text};
+ghost use Rattle.ipdl_top.specs.Chains.{accepted_text};
 ghost use Rattle.ipdl_top.specs.Transfers.{source_limit, GaveSome, GaveTooMany, Took, TookFront};
-ghost use Rattle.ipdl_top.specs.Replies.{reply_of, document_reply, IsReplyWithin, usage_reply, fault_reply};
-ghost use Rattle.ipdl_top.specs.Runs.{IsVerdict, IsOfWholeSource, IsFinished, IsReplied, IsRepliedFront, IsAcceptedDocument};
+ghost use Rattle.ipdl_top.specs.Replies.{usage_reply, fault_reply, IsRead};
+ghost use Rattle.ipdl_top.specs.Runs.{IsVerdict, IsOfWholeSource, IsFinished, IsReplied, IsRepliedFront, IsAcceptable, IsAcceptedDocument};
 
-use crate::comparing::differing_place;
-use crate::document::Document;
-use crate::reading::{DocumentFault, read_document};
+use crate::answering::answer_to;
 use crate::status::Status;
 use crate::transfer::{ReadStop, read_all, write_all};
-use crate::writing::{accepted_text, wrong_ends_text};
 use ipdl_base::NoMemory;
 use ipdl_io::{Sink, Source};
 use std::alloc::Global;
-
-/// A status, and the text that is to be written with it.
-#[derive(Debug, Drop)]
-struct Answer {
-    status: Status,
-    text: Vec<u8>,
-}
 
 // Whether the words are the one word `check`.
 fn is_check(words: &[String]) -> bool
@@ -33,37 +24,6 @@ fn is_check(words: &[String]) -> bool
     match words {
         [word] => word.as_str() == "check",
         _ => false,
-    }
-}
-
-// The answer to a document of the form: its chain, or where its ends differ.
-fn answer_to_document(alloc: Global, document: &Document) -> Result<Answer, NoMemory>
-    ensures { IfOk result (λ a. reply_of a.status a.text.items ≡ document_reply document.now) }
-{
-    let body = &document.left.body;
-    match differing_place(alloc, &body.second, &body.first, &document.right.body)? {
-        None => Ok(Answer {
-            status: Status::Accepted,
-            text: accepted_text(alloc, document)?,
-        }),
-        Some(place) => Ok(Answer {
-            status: Status::WrongStep,
-            text: wrong_ends_text(alloc, &document.theorem, &place)?,
-        }),
-    }
-}
-
-// The answer to all bytes of a source, which are within the limit.
-fn answer_to(alloc: Global, bytes: &[u8]) -> Result<Answer, NoMemory>
-    ensures { IfOk result (λ a. IsReplyWithin bytes.now (reply_of a.status a.text.items)) }
-{
-    match read_document(alloc, bytes) {
-        Ok(document) => answer_to_document(alloc, &document),
-        Err(DocumentFault::NotBuilt) => Ok(Answer {
-            status: Status::BadSource,
-            text: Vec::from_slice(alloc, b"form 0 NotBuilt\n")?,
-        }),
-        Err(DocumentFault::Memory) => Err(NoMemory),
     }
 }
 
@@ -96,15 +56,16 @@ pub fn run<S: Source, K: Sink>(
     // No status that words and bytes decide is answered without its cause.
     ensures verdict { IsVerdict result → IsReplied (map string_bytes words.now) result (S.left source.old) (K.taken sink.old) (K.taken sink.new) }
     ensures usage_cause { result ≡ Status.Usage → map string_bytes words.now ≢ check_words }
-    ensures over_cause { result ≡ Status.OverLimit → GaveTooMany (S.left source.old) (S.left source.new) }
+    ensures over_cause { result ≡ Status.OverLimit → GaveTooMany (S.left source.old) (S.left source.new) ⊎ IsAtEnd (S.left source.new) }
     ensures read_cause { result ≡ Status.ReadFault → MayHaveRisen (S.faults source.old) (S.faults source.new) }
     ensures write_cause { result ≡ Status.WriteFault → MayHaveRisen (K.faults sink.old) (K.faults sink.new) }
 
-    // What is accepted is a document whose ends meet, and each such document is accepted.
-    ensures accepted { result ≡ Status.Accepted → IsAcceptedDocument (S.left source.old) (K.taken sink.old) (K.taken sink.new) }
-    ensures complete { (d : Document) → IsBuilt d → Meets d → length (spelling d) ≤ source_limit → map string_bytes words.now ≡ check_words →
-        S.left source.old ≡ Some (spelling d) → DidNotRise (S.faults source.old) (S.faults source.new) → DidNotRise (K.faults sink.old) (K.faults sink.new) →
-        result ≢ Status.Memory → (result ≡ Status.Accepted) × Took (K.taken sink.old) (K.taken sink.new) (document_text d) }
+    // What is accepted is a document that is built and whose ends meet, and each such document is accepted.
+    ensures accepted { result ≡ Status.Accepted → IsAcceptedDocument (S.left source.old) (S.left source.new) (K.taken sink.old) (K.taken sink.new) }
+    ensures complete { (bytes : List ℕ) (t : Placed) (d : Document) → SpellsSource t bytes → IsRead d t → IsAcceptable d → length bytes ≤ source_limit →
+        map string_bytes words.now ≡ check_words → S.left source.old ≡ Some bytes →
+        DidNotRise (S.faults source.old) (S.faults source.new) → DidNotRise (K.faults sink.old) (K.faults sink.new) →
+        result ≢ Status.Memory → (result ≡ Status.Accepted) × Took (K.taken sink.old) (K.taken sink.new) (accepted_text d) }
 
     // At words of no form nothing is read, and memory is not wanted.
     ensures unread { map string_bytes words.now ≢ check_words → S.left source.new ≡ S.left source.old }

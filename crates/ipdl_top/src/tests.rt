@@ -77,6 +77,28 @@ fn answers_documents(rt: HostRuntime) -> Result<(), Fail> {
             Status::Accepted,
             "theorem t é B\n0 (par (out _ (ret #)) (out b2 (ret #01)))\nby rule lr comm ()\n1 (par (out b2 (ret #01)) (out _ (ret #)))\nexact 1 assumed 0\naccepted theorems 1 neighbours 1\n",
         ),
+        // Blanks and comments around and within.
+        (
+            " (ipdl 1 ; two\n(protocol A (inputs)\t(outputs (a 1) (b 1)) (par (out a (ret #0)) (out b (ret #1)))) (protocol B (inputs) (outputs (a 1) (b 1)) (par (out b (ret #1)) (out a (ret #0)))) (theorem t A B (left (comm ())) (right)) ) ; end",
+            Status::Accepted,
+            CHAIN,
+        ),
+        // No theorem, and two.
+        (
+            "(ipdl 1)",
+            Status::Accepted,
+            "accepted theorems 0 neighbours 0\n",
+        ),
+        (
+            "(ipdl 1 (fun f 1 1) (table g 1 1 (#0 #1)))",
+            Status::Accepted,
+            "accepted theorems 0 neighbours 0\n",
+        ),
+        (
+            "(ipdl 1 (protocol A (inputs) (outputs (a 1) (b 1)) (par (out a (ret #0)) (out b (ret #1)))) (protocol B (inputs) (outputs (a 1) (b 1)) (par (out b (ret #1)) (out a (ret #0)))) (theorem t A B (left (comm ())) (right)) (theorem u B A (left (comm ())) (right)))",
+            Status::Accepted,
+            "theorem t A B\n0 (par (out a (ret #0)) (out b (ret #1)))\nby rule lr comm ()\n1 (par (out b (ret #1)) (out a (ret #0)))\nexact 1 assumed 0\ntheorem u B A\n0 (par (out b (ret #1)) (out a (ret #0)))\nby rule lr comm ()\n1 (par (out a (ret #0)) (out b (ret #1)))\nexact 1 assumed 0\naccepted theorems 2 neighbours 2\n",
+        ),
         // The ends differ in the first literal, in the first channel, and in the second literal.
         (
             "(ipdl 1 (protocol A (inputs) (outputs (a 1) (b 1)) (par (out a (ret #0)) (out b (ret #1)))) (protocol B (inputs) (outputs (a 1) (b 1)) (par (out b (ret #0)) (out a (ret #0)))) (theorem t A B (left (comm ())) (right)))",
@@ -103,27 +125,96 @@ fn answers_documents(rt: HostRuntime) -> Result<(), Fail> {
 
 #[test]
 fn refuses_other_texts(rt: HostRuntime) -> Result<(), Fail> {
-    for text in [
-        "",
-        "(ipdl 1)",
-        // A blank before, within and after the form.
-        " (ipdl 1 (protocol A (inputs) (outputs (a 1) (b 1)) (par (out a (ret #0)) (out b (ret #1)))) (protocol B (inputs) (outputs (a 1) (b 1)) (par (out b (ret #1)) (out a (ret #0)))) (theorem t A B (left (comm ())) (right)))",
-        "(ipdl 1  (protocol A (inputs) (outputs (a 1) (b 1)) (par (out a (ret #0)) (out b (ret #1)))) (protocol B (inputs) (outputs (a 1) (b 1)) (par (out b (ret #1)) (out a (ret #0)))) (theorem t A B (left (comm ())) (right)))",
-        "(ipdl 1 (protocol A (inputs) (outputs (a 1) (b 1)) (par (out a (ret #0)) (out b (ret #1)))) (protocol B (inputs) (outputs (a 1) (b 1)) (par (out b (ret #1)) (out a (ret #0)))) (theorem t A B (left (comm ())) (right)))\n",
-        // An operator's name, one name twice, and the sides exchanged.
-        "(ipdl 1 (protocol mux (inputs) (outputs (a 1) (b 1)) (par (out a (ret #0)) (out b (ret #1)))) (protocol B (inputs) (outputs (a 1) (b 1)) (par (out b (ret #1)) (out a (ret #0)))) (theorem t mux B (left (comm ())) (right)))",
-        "(ipdl 1 (protocol A (inputs) (outputs (a 1) (b 1)) (par (out a (ret #0)) (out b (ret #1)))) (protocol B (inputs) (outputs (a 1) (b 1)) (par (out b (ret #1)) (out a (ret #0)))) (theorem A A B (left (comm ())) (right)))",
-        "(ipdl 1 (protocol A (inputs) (outputs (a 1) (b 1)) (par (out a (ret #0)) (out b (ret #1)))) (protocol B (inputs) (outputs (a 1) (b 1)) (par (out b (ret #1)) (out a (ret #0)))) (theorem t B A (left (comm ())) (right)))",
-        // One port twice, a port that is not written, other widths, and a width past 128.
-        "(ipdl 1 (protocol A (inputs) (outputs (a 1) (a 1)) (par (out a (ret #0)) (out a (ret #1)))) (protocol B (inputs) (outputs (a 1) (a 1)) (par (out a (ret #1)) (out a (ret #0)))) (theorem t A B (left (comm ())) (right)))",
-        "(ipdl 1 (protocol A (inputs) (outputs (a 1) (b 1)) (par (out a (ret #0)) (out a (ret #1)))) (protocol B (inputs) (outputs (a 1) (b 1)) (par (out b (ret #1)) (out a (ret #0)))) (theorem t A B (left (comm ())) (right)))",
-        "(ipdl 1 (protocol A (inputs) (outputs (a 1) (b 1)) (par (out a (ret #0)) (out b (ret #11)))) (protocol B (inputs) (outputs (a 1) (b 1)) (par (out b (ret #1)) (out a (ret #0)))) (theorem t A B (left (comm ())) (right)))",
-        "(ipdl 1 (protocol A (inputs) (outputs (a 1) (b 2)) (par (out a (ret #0)) (out b (ret #11)))) (protocol B (inputs) (outputs (a 1) (b 1)) (par (out b (ret #1)) (out a (ret #0)))) (theorem t A B (left (comm ())) (right)))",
-        "(ipdl 1 (protocol A (inputs) (outputs (a 01) (b 1)) (par (out a (ret #0)) (out b (ret #1)))) (protocol B (inputs) (outputs (a 01) (b 1)) (par (out b (ret #1)) (out a (ret #0)))) (theorem t A B (left (comm ())) (right)))",
+    for (text, reply) in [
+        // Bytes that spell no tree.
+        ("", "spell 0 NoText\n"),
+        (
+            "(ipdl 1 (protocol A (inputs) (outputs (a 2)) (out a (ret #0",
+            "spell 59 Unclosed\n",
+        ),
+        ("(ipdl 1) x", "spell 9 Extra\n"),
+        (
+            "(ipdl 1 nnnnnnnnnnnnnnnnnnnnnnnnnnnnnnnnnnnnnnnnnnnnnnnnnnnnnnnnnnnnnnnnn)",
+            "spell 72 BadName\n",
+        ),
+        (
+            "(ipdl 1 (protocol A (inputs) (outputs (a 01) (b 1)) (par (out a (ret #0)) (out b (ret #1)))) (protocol B (inputs) (outputs (a 1) (b 1)) (par (out b (ret #1)) (out a (ret #0)))) (theorem t A B (left (comm ())) (right)))",
+            "spell 42 BadByte\n",
+        ),
+        // Trees that spell no document.
+        ("ipdl", "form 0 NotAForm\n"),
+        ("(ipdl 2)", "form 6 NotAForm\n"),
+        ("(ipdl 1 (fun xor 1 1))", "form 13 Repeated\n"),
+        (
+            "(ipdl 1 (protocol A (inputs) (outputs (a 1) (b 1)) (par (out a (ret #0)) (out b (ret #1)))) (protocol B (inputs) (outputs (a 1) (b 1)) (par (out b (ret #1)) (out a (ret #0)))) (theorem A A B (left (comm ())) (right)))",
+            "form 185 Repeated\n",
+        ),
+        (
+            "(ipdl 1 (protocol A (inputs) (outputs (a 1) (a 1)) (par (out a (ret #0)) (out b (ret #1)))) (protocol B (inputs) (outputs (a 1) (b 1)) (par (out b (ret #1)) (out a (ret #0)))) (theorem t A B (left (comm ())) (right)))",
+            "form 45 Repeated\n",
+        ),
+        (
+            "(ipdl 1 (protocol A (inputs) (outputs (a 1) (b 1)) (par (out a (ret #0)) (out b (ret #1)))) (protocol B (inputs) (outputs (a 1) (b 1)) (par (out b (ret #1)) (out a (ret #0)))) (theorem t A C (left (comm ())) (right)))",
+            "form 189 UnknownName\n",
+        ),
+        ("(ipdl 1 (fun f 129 1))", "form 15 WrongWidth\n"),
+        ("(ipdl 1 (table f 1 1 (#0)))", "form 21 TableLength\n"),
+        // Items that are not built: an input, a channel that is not written, a literal of
+        // another width, a third part, an assumption, ports of other widths, a step on the
+        // right, and another rule.
+        (
+            "(ipdl 1 (protocol A (inputs (m 1)) (outputs) (nil)))",
+            "form 8 NotBuilt\n",
+        ),
+        (
+            "(ipdl 1 (protocol A (inputs) (outputs (a 1) (b 1)) (par (out a (ret #0)) (out a (ret #1)))) (protocol B (inputs) (outputs (a 1) (b 1)) (par (out b (ret #1)) (out a (ret #0)))) (theorem t A B (left (comm ())) (right)))",
+            "form 8 NotBuilt\n",
+        ),
+        (
+            "(ipdl 1 (protocol A (inputs) (outputs (a 1) (b 1)) (par (out a (ret #0)) (out b (ret #11)))) (protocol B (inputs) (outputs (a 1) (b 1)) (par (out b (ret #1)) (out a (ret #0)))) (theorem t A B (left (comm ())) (right)))",
+            "form 8 NotBuilt\n",
+        ),
+        (
+            "(ipdl 1 (protocol A (inputs) (outputs (a 1) (b 1)) (par (out a (ret #0)) (out b (ret #1)))) (protocol B (inputs) (outputs (a 1) (b 1)) (par (out b (ret #1)) (out a (ret #0)) (nil))) (theorem t A B (left (comm ())) (right)))",
+            "form 92 NotBuilt\n",
+        ),
+        (
+            "(ipdl 1 (protocol A (inputs) (outputs (a 1) (b 1)) (par (out a (ret #0)) (out b (ret #1)))) (assume s A A))",
+            "form 92 NotBuilt\n",
+        ),
+        (
+            "(ipdl 1 (protocol A (inputs) (outputs (a 1) (b 2)) (par (out a (ret #0)) (out b (ret #11)))) (protocol B (inputs) (outputs (a 1) (b 1)) (par (out b (ret #1)) (out a (ret #0)))) (theorem t A B (left (comm ())) (right)))",
+            "form 177 NotBuilt\n",
+        ),
+        (
+            "(ipdl 1 (protocol A (inputs) (outputs (a 1) (b 1)) (par (out a (ret #0)) (out b (ret #1)))) (protocol B (inputs) (outputs (a 1) (b 1)) (par (out b (ret #1)) (out a (ret #0)))) (theorem t A B (left (comm ())) (right (comm ()))))",
+            "form 176 NotBuilt\n",
+        ),
+        (
+            "(ipdl 1 (protocol A (inputs) (outputs (a 1) (b 1)) (par (out a (ret #0)) (out b (ret #1)))) (protocol B (inputs) (outputs (a 1) (b 1)) (par (out b (ret #1)) (out a (ret #0)))) (theorem t A B (left (assocl ())) (right)))",
+            "form 176 NotBuilt\n",
+        ),
     ] {
         let (answer, sink) = outcome(rt.alloc(), "check", text.as_bytes(), CALM)?;
         assert_eq!(rt; answer, Status::BadSource, "{text}");
-        assert_eq!(rt; sink.taken(), b"form 0 NotBuilt\n".as_slice());
+        assert_eq!(rt; sink.taken(), reply.as_bytes());
+    }
+    Ok(())
+}
+
+#[test]
+fn counts_the_parentheses(rt: HostRuntime) -> Result<(), Fail> {
+    for (depth, status, reply) in [
+        (200, Status::BadSource, "form 0 NotAForm\n"),
+        (201, Status::OverLimit, "limit Depth 200 at byte 200\n"),
+    ] {
+        let mut bytes = vec![in rt.alloc(); b'('; depth]?;
+        for _ in 0..depth {
+            bytes.push(b')')?;
+        }
+        let (answer, sink) = outcome(rt.alloc(), "check", bytes.as_slice(), CALM)?;
+        assert_eq!(rt; answer, status);
+        assert_eq!(rt; sink.taken(), reply.as_bytes());
     }
     Ok(())
 }
@@ -180,15 +271,22 @@ fn answers_other_words_with_usage(rt: HostRuntime) -> Result<(), Fail> {
 
 #[test]
 fn counts_the_bytes_of_the_source(rt: HostRuntime) -> Result<(), Fail> {
-    for (length, status, reply) in [
-        (1_048_576, Status::BadSource, "form 0 NotBuilt\n"),
+    for (blanks, status, reply) in [
         (
-            1_048_577,
+            1_048_568,
+            Status::Accepted,
+            "accepted theorems 0 neighbours 0\n",
+        ),
+        (
+            1_048_569,
             Status::OverLimit,
             "limit Source 1048576 at byte 1048576\n",
         ),
     ] {
-        let bytes = vec![in rt.alloc(); b' '; length]?;
+        let mut bytes = b"(ipdl 1)".to_vec(rt.alloc())?;
+        for _ in 0..blanks {
+            bytes.push(b' ')?;
+        }
         let (answer, sink) = outcome(rt.alloc(), "check", bytes.as_slice(), CALM)?;
         assert_eq!(rt; answer, status);
         assert_eq!(rt; sink.taken(), reply.as_bytes());

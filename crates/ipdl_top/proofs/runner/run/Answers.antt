@@ -1,7 +1,7 @@
-use Rattle.std.proofs.Common.{◌≢◌, map, string_bytes, sym, subst, refl}
+use Rattle.std.proofs.Common.{◌≢◌, map, string_bytes, sym, subst, refl, inr}
 use Rattle.ipdl_top.specs.Words.{check_words}
 use Rattle.ipdl_top.specs.Runs.{IsVerdict}
-use Rattle.ipdl_top.proofs.Replies.{IsAcceptedDocument-replied, accepted_where_meeting}
+use Rattle.ipdl_top.proofs.Replies.{IsAcceptedDocument-replied, accepted_where_acceptable}
 use Rattle.ipdl_top.proofs.Runs.{IsPlanned, IsReplied-calm, IsReplied-verdict, IsRepliedFront-finished, IsPlanned-usage, IsPlanned-over, IsPlanned-within}
 use Rattle.ipdl_top.proofs.runner.run.Goals as goal
 
@@ -62,12 +62,16 @@ returns-in-Ok-answer_to-clause-write_rose_text g c =
     let finished = rw c.as_slice-in-Ok-answer_to.ensures.value at c.finish-in-Ok-answer_to.ensures in
     λ still rose. IsRepliedFront-finished (planned g c) finished
 
+pub returns-in-Ok-answer_to-clause-over_cause : goal.returns-in-Ok-answer_to-clause-over_cause
+returns-in-Ok-answer_to-clause-over_cause g c = λ over. inr c.in-Ok.ensures.whole.2
+
 pub returns-in-Ok-answer_to-clause-accepted : goal.returns-in-Ok-answer_to-clause-accepted
 returns-in-Ok-answer_to-clause-accepted g c =
     let finished = rw c.as_slice-in-Ok-answer_to.ensures.value at c.finish-in-Ok-answer_to.ensures in
-    λ accepted. IsAcceptedDocument-replied _ _ _ _ _ (IsReplied-verdict (planned g c) finished (subst IsVerdict (sym accepted) tt)) accepted
+    λ accepted. IsAcceptedDocument-replied _ _ _ _ _ _ c.in-Ok.ensures.whole.2 (IsReplied-verdict (planned g c) finished (subst IsVerdict (sym accepted) tt)) accepted
 
 pub returns-in-Ok-answer_to-clause-complete : goal.returns-in-Ok-answer_to-clause-complete
 returns-in-Ok-answer_to-clause-complete g c =
     let finished = rw c.as_slice-in-Ok-answer_to.ensures.value at c.finish-in-Ok-answer_to.ensures in
-    λ d built meets within check told still calm granted. accepted_where_meeting _ d _ _ _ _ built meets within check told (IsReplied-calm (planned g c) finished calm)
+    λ bytes t d spells read acceptable within check told still calm granted.
+    accepted_where_acceptable _ bytes t d _ _ _ _ spells read acceptable within check told (IsReplied-calm (planned g c) finished calm)

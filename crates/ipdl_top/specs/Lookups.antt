@@ -1,0 +1,33 @@
+-- The protocols that the items of a document name.
+use Rattle.std.specs.Prelude.{ℕ, List, [], ◌∷◌, bytes_eq, if◌then◌else◌}
+use Rattle.ipdl_term.specs.declared.interface.Interface.{Interface}
+use Rattle.ipdl_term.specs.Terms.{Protocol, nil}
+use Rattle.ipdl_forms.specs.Documents.{Entry, symbol_entry, protocol_entry, assumption_entry, theorem_entry}
+use Rattle.ipdl_forms.specs.Within.{IsProtocolWithin}
+
+-- a protocol with its interface
+pub record Network : Type 0 where
+  pub interface : Interface
+  pub body : Protocol
+
+-- what stands for a protocol that is not there: one of no channels
+abbrev pub no_network : Network
+no_network = record { interface = record { inputs = []; outputs = [] }; body = nil }
+
+-- the first protocol of the name
+abbrev pub network_named : List Entry → List ℕ → Network
+network_named [] name = no_network
+network_named (symbol_entry n s ∷ entries) name = network_named entries name
+network_named (protocol_entry other interface body ∷ entries) name =
+    if bytes_eq other name then record { interface = interface; body = body } else network_named entries name
+network_named (assumption_entry other left right ∷ entries) name = network_named entries name
+network_named (theorem_entry other left right lefts rights ∷ entries) name = network_named entries name
+
+-- the bodies of the protocols name symbols among so many, and each variable in them has a binder
+abbrev pub HasBodiesWithin : ℕ → List Entry → Type 0
+HasBodiesWithin count [] = Unit {0}
+HasBodiesWithin count (symbol_entry n s ∷ entries) = HasBodiesWithin count entries
+HasBodiesWithin count (protocol_entry name interface body ∷ entries) =
+    IsProtocolWithin count body × HasBodiesWithin count entries
+HasBodiesWithin count (assumption_entry name left right ∷ entries) = HasBodiesWithin count entries
+HasBodiesWithin count (theorem_entry name left right lefts rights ∷ entries) = HasBodiesWithin count entries

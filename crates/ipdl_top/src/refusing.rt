@@ -1,0 +1,93 @@
+// The lines that say where and why a source is refused.
+
+ghost use Rattle.std.specs.Prelude.{◌≡◌, IfOk, codes};
+ghost use Rattle.ipdl_top.specs.Lines.{spell_cause_name, form_cause_name, limit_name, spell_line, form_line, limit_line};
+
+use ipdl_base::{Limit, NoMemory, Pos};
+use ipdl_forms::FormCause;
+use ipdl_tree::SpellCause;
+use std::alloc::Global;
+
+fn spell_cause_name(cause: SpellCause) -> &'static str
+    ensures { result.now ≡ spell_cause_name cause }
+{
+    match cause {
+        SpellCause::BadByte => "BadByte",
+        SpellCause::BadName => "BadName",
+        SpellCause::Unclosed => "Unclosed",
+        SpellCause::Extra => "Extra",
+        SpellCause::NoText => "NoText",
+    }
+}
+
+fn form_cause_name(cause: FormCause) -> &'static str
+    ensures { result.now ≡ form_cause_name cause }
+{
+    match cause {
+        FormCause::NotAForm => "NotAForm",
+        FormCause::UnknownName => "UnknownName",
+        FormCause::Repeated => "Repeated",
+        FormCause::WrongWidth => "WrongWidth",
+        FormCause::TableLength => "TableLength",
+    }
+}
+
+fn limit_name(limit: Limit) -> &'static str
+    ensures { result.now ≡ limit_name limit }
+{
+    match limit {
+        Limit::Source => "Source",
+        Limit::Depth => "Depth",
+        Limit::Items => "Items",
+        Limit::Channels => "Channels",
+        Limit::Nodes => "Nodes",
+        Limit::Steps => "Steps",
+        Limit::Chain => "Chain",
+        Limit::Output => "Output",
+        Limit::Coins => "Coins",
+    }
+}
+
+// The line of bytes that spell no tree.
+pub(crate) fn spell_text(alloc: Global, pos: Pos, cause: SpellCause) -> Result<Vec<u8>, NoMemory>
+    ensures { IfOk result (λ text. text.items ≡ spell_line pos.0 (spell_cause_name cause)) }
+{
+    let mut text = String::new(alloc);
+    let offset = pos.0;
+    let cause = spell_cause_name(cause);
+    writeln!(text, "spell {offset} {cause}")?;
+    Ok(text.into_bytes())
+}
+
+// The line of a tree that is not of the form that is asked.
+pub(crate) fn form_text(alloc: Global, pos: Pos, cause: FormCause) -> Result<Vec<u8>, NoMemory>
+    ensures { IfOk result (λ text. text.items ≡ form_line pos.0 (form_cause_name cause)) }
+{
+    let mut text = String::new(alloc);
+    let offset = pos.0;
+    let cause = form_cause_name(cause);
+    writeln!(text, "form {offset} {cause}")?;
+    Ok(text.into_bytes())
+}
+
+// The line of an item that is not built.
+pub(crate) fn not_built_text(alloc: Global, pos: Pos) -> Result<Vec<u8>, NoMemory>
+    ensures { IfOk result (λ text. text.items ≡ form_line pos.0 (codes "NotBuilt")) }
+{
+    let mut text = String::new(alloc);
+    let offset = pos.0;
+    writeln!(text, "form {offset} NotBuilt")?;
+    Ok(text.into_bytes())
+}
+
+// The line of a count that passes its limit.
+pub(crate) fn limit_text(alloc: Global, limit: Limit, pos: Pos) -> Result<Vec<u8>, NoMemory>
+    ensures { IfOk result (λ text. text.items ≡ limit_line limit pos.0) }
+{
+    let mut text = String::new(alloc);
+    let name = limit_name(limit);
+    let number = limit.number();
+    let offset = pos.0;
+    writeln!(text, "limit {name} {number} at byte {offset}")?;
+    Ok(text.into_bytes())
+}

@@ -15,7 +15,7 @@ use Rattle.ipdl_forms.specs.Steps.{Earlier, AreMoves, headed_faults, side_faults
 use Rattle.ipdl_forms.specs.Widths.{greatest_width}
 use Rattle.ipdl_forms.proofs.CleanSteps.{clean_width, clean_head, clean_side}
 use Rattle.ipdl_forms.proofs.Faults.{clean-append}
-use Rattle.ipdl_forms.proofs.TermLaws.{TermLaws}
+use Rattle.ipdl_forms.proofs.Terms.{clean_protocol}
 use Rattle.ipdl_forms.proofs.TreeForms.{with_head, first_name_head}
 
 clean_name : (earlier : Earlier) (name : List ℕ) (t : Placed) → SpellsNewName earlier name t → item_name_faults earlier t ≡ []
@@ -96,21 +96,21 @@ move_count earlier [] (tree t ts) s = absurd s
 move_count earlier (m ∷ ms) no_trees s = absurd s
 move_count earlier (m ∷ ms) (tree t ts) s = ap suc (move_count earlier ms ts s.1)
 
-clean_sides : (laws : TermLaws) (earlier : Earlier) (lefts rights : List Move) (t u : Placed) → SpellsSide earlier (codes "left") lefts t → SpellsSide earlier (codes "right") rights u → AreSidesWithin lefts rights → side_faults earlier (codes "left") 0 t ++ side_faults earlier (codes "right") (tree_count (operands t)) u ≡ []
-clean_sides laws earlier lefts rights t u left right within =
+clean_sides : (earlier : Earlier) (lefts rights : List Move) (t u : Placed) → SpellsSide earlier (codes "left") lefts t → SpellsSide earlier (codes "right") rights u → AreSidesWithin lefts rights → side_faults earlier (codes "left") 0 t ++ side_faults earlier (codes "right") (tree_count (operands t)) u ≡ []
+clean_sides earlier lefts rights t u left right within =
     let few : 0 + length lefts ≤ most_steps = omega (arith, within.0) in
     let both : tree_count (operands t) + length rights ≤ most_steps = subst (λ n. n + length rights ≤ most_steps) (sym (move_count earlier lefts (operands t) left.1)) within.0 in
-    clean-append (side_faults earlier (codes "left") 0 t) (side_faults earlier (codes "right") (tree_count (operands t)) u) (clean_side laws earlier (codes "left") 0 lefts t left within.1 few) (clean_side laws earlier (codes "right") (tree_count (operands t)) rights u right within.2 both)
+    clean-append (side_faults earlier (codes "left") 0 t) (side_faults earlier (codes "right") (tree_count (operands t)) u) (clean_side earlier (codes "left") 0 lefts t left within.1 few) (clean_side earlier (codes "right") (tree_count (operands t)) rights u right within.2 both)
 
-pub clean_entry : (laws : TermLaws) (earlier : Earlier) (e : Entry) (t : Placed) → SpellsEntry earlier e t → IsEntryWithin e → item_faults earlier t ≡ []
-clean_entry laws earlier (symbol_entry n symbol) t s within =
+pub clean_entry : (earlier : Earlier) (e : Entry) (t : Placed) → SpellsEntry earlier e t → IsEntryWithin e → item_faults earlier t ≡ []
+clean_entry earlier (symbol_entry n symbol) t s within =
     clean_symbol earlier symbol.name symbol.from symbol.to symbol.values t s.1
-clean_entry laws earlier (protocol_entry name interface body) t s within =
-    with_head (λ u. SpellsEntry earlier (protocol_entry name interface body) u → item_faults earlier u ≡ []) t (codes "protocol") s.0.0 (λ pos at ts h. rw (h.0.1, clean_name earlier name (tree_at 0 ts) h.1, clean_interface interface (tree_at 1 ts) (tree_at 2 ts) h.2) (laws.clean_protocol (body_scope earlier) body (tree_at 3 ts) h.3 within)) s
-clean_entry laws earlier (assumption_entry name left right) t s within =
+clean_entry earlier (protocol_entry name interface body) t s within =
+    with_head (λ u. SpellsEntry earlier (protocol_entry name interface body) u → item_faults earlier u ≡ []) t (codes "protocol") s.0.0 (λ pos at ts h. rw (h.0.1, clean_name earlier name (tree_at 0 ts) h.1, clean_interface interface (tree_at 1 ts) (tree_at 2 ts) h.2) (clean_protocol (body_scope earlier) body (tree_at 3 ts) h.3 within)) s
+clean_entry earlier (assumption_entry name left right) t s within =
     with_head (λ u. SpellsEntry earlier (assumption_entry name left right) u → item_faults earlier u ≡ []) t (codes "assume") s.0.0 (λ pos at ts h. rw (h.0.1, clean_name earlier name (tree_at 0 ts) h.1, h.2.0, h.2.1, h.2.2, h.2.3) refl) s
-clean_entry laws earlier (theorem_entry name left right lefts rights) t s within =
-    with_head (λ u. SpellsEntry earlier (theorem_entry name left right lefts rights) u → item_faults earlier u ≡ []) t (codes "theorem") s.0.0 (λ pos at ts h. rw (h.0.1, clean_name earlier name (tree_at 0 ts) h.1, h.2.0, h.2.1, h.2.2, h.2.3) (clean_sides laws earlier lefts rights (tree_at 3 ts) (tree_at 4 ts) h.3 h.4 within)) s
+clean_entry earlier (theorem_entry name left right lefts rights) t s within =
+    with_head (λ u. SpellsEntry earlier (theorem_entry name left right lefts rights) u → item_faults earlier u ≡ []) t (codes "theorem") s.0.0 (λ pos at ts h. rw (h.0.1, clean_name earlier name (tree_at 0 ts) h.1, h.2.0, h.2.1, h.2.2, h.2.3) (clean_sides earlier lefts rights (tree_at 3 ts) (tree_at 4 ts) h.3 h.4 within)) s
 
 -- ---- what is declared after an item
 
@@ -131,14 +131,14 @@ earlier_past-with earlier (theorem_entry name left right lefts rights) t s =
 
 -- ---- documents
 
-clean_items : (laws : TermLaws) (earlier : Earlier) (before : ℕ) (es : List Entry) (ts : Forest) → AreEntries earlier es ts → AllByRecursion IsEntryWithin es → before + length es ≤ most_items → all_item_faults earlier before ts ≡ []
-clean_items laws earlier before [] no_trees s within few = refl
-clean_items laws earlier before [] (tree t ts) s within few = absurd s
-clean_items laws earlier before (e ∷ es) no_trees s within few = absurd s
-clean_items laws earlier before (e ∷ es) (tree t ts) s within few =
+clean_items : (earlier : Earlier) (before : ℕ) (es : List Entry) (ts : Forest) → AreEntries earlier es ts → AllByRecursion IsEntryWithin es → before + length es ≤ most_items → all_item_faults earlier before ts ≡ []
+clean_items earlier before [] no_trees s within few = refl
+clean_items earlier before [] (tree t ts) s within few = absurd s
+clean_items earlier before (e ∷ es) no_trees s within few = absurd s
+clean_items earlier before (e ∷ es) (tree t ts) s within few =
     let first : nat_lt before most_items ≡ true = lt-ltb before most_items (omega arith) in
     let rest : suc before + length es ≤ most_items = omega arith in
-    rw (first, clean_entry laws earlier e t s.0 within.0, earlier_past-with earlier e t s.0) (clean_items laws (earlier_with e earlier) (suc before) es ts s.1 within.1 rest)
+    rw (first, clean_entry earlier e t s.0 within.0, earlier_past-with earlier e t s.0) (clean_items (earlier_with e earlier) (suc before) es ts s.1 within.1 rest)
 
 clean_version : (t : Placed) → number_in t ≡ Some this_version → version_faults t ≡ []
 clean_version (word pos name) is = cc
@@ -147,11 +147,11 @@ clean_version (literal pos bits) is = cc
 clean_version (group pos ts) is = cc
 
 -- a tree that spells a document within the limits has no faults
-pub clean_document : (laws : TermLaws) (d : Document) (t : Placed) → SpellsDocument d t → IsWithinLimits d → document_faults t ≡ []
-clean_document laws d t s within =
+pub clean_document : (d : Document) (t : Placed) → SpellsDocument d t → IsWithinLimits d → document_faults t ≡ []
+clean_document d t s within =
     with_head (λ u. SpellsDocument d u → document_faults u ≡ []) t (codes "ipdl") s.0.0 (λ pos at ts h. at_group pos at ts h) s
   where
     at_group : (pos at : ℕ) (ts : Forest) → SpellsDocument d (group pos (tree (word at (codes "ipdl")) ts)) → document_faults (group pos (tree (word at (codes "ipdl")) ts)) ≡ []
     at_group pos at ts h =
         let long : nat_le 1 (tree_count ts) ≡ true = le-leb 1 (tree_count ts) h.0.1 in
-        rw (long, clean_version (tree_at 0 ts) h.2) (clean_items laws nothing_earlier 0 d.entries (without_first ts) h.3 within.1 (omega (arith, within.0)))
+        rw (long, clean_version (tree_at 0 ts) h.2) (clean_items nothing_earlier 0 d.entries (without_first ts) h.3 within.1 (omega (arith, within.0)))

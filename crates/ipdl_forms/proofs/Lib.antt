@@ -1,4 +1,3 @@
-mod Digits
 pub mod Faults
 pub mod Lists
 pub mod Counts
@@ -21,15 +20,6 @@ pub mod One
 pub mod Placeless
 pub mod ProtocolReading
 pub mod Fits
-pub mod PrintedNames
-pub mod PrintedExpressions
-pub mod PrintedReactions
-pub mod PrintedProtocols
-pub mod PrintedDepth
-pub mod PlainNames
-pub mod PrintedWellFormed
-pub mod PrintedPlaces
-pub mod TermLaws
 pub mod TreeForms
 pub mod StepForms
 pub mod CleanSteps
@@ -39,7 +29,6 @@ pub mod OneItems
 pub mod WithinLimits
 pub mod Terms
 pub mod OuterNames
-pub mod ReadBack
 pub mod PlacelessSteps
 pub mod PlacelessItems
 pub mod Lookups

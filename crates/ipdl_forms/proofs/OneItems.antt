@@ -10,7 +10,7 @@ use Rattle.ipdl_forms.specs.Items.{nothing_earlier, earlier_with, body_scope, Ar
 use Rattle.ipdl_forms.specs.Lists.{parts_of, without_first, head_of, operands, operand}
 use Rattle.ipdl_forms.specs.Steps.{Earlier, first_name}
 use Rattle.ipdl_forms.proofs.OneSteps.{one_side}
-use Rattle.ipdl_forms.proofs.TermLaws.{TermLaws}
+use Rattle.ipdl_forms.proofs.One.{one_protocol}
 use Rattle.ipdl_forms.proofs.TreeForms.{first_name_head, heads_apart}
 
 -- ---- symbols
@@ -108,50 +108,54 @@ entry_sort earlier (assumption_entry name left right) t s = rw (first_name_head 
 entry_sort earlier (theorem_entry name left right lefts rights) t s =
     rw (first_name_head t (codes "theorem") s.0.0) refl
 
-one_entry : (laws : TermLaws) (earlier : Earlier) (e f : Entry) (t : Placed) → sort_of_entry e ≡ sort_of_entry f → SpellsEntry earlier e t → SpellsEntry earlier f t → e ≡ f
+one_entry : (earlier : Earlier) (e f : Entry) (t : Placed) → sort_of_entry e ≡ sort_of_entry f → SpellsEntry earlier e t → SpellsEntry earlier f t → e ≡ f
 unfolding sort_of_entry
-one_entry laws earlier (symbol_entry n a) (symbol_entry m b) t sort s u =
+one_entry earlier (symbol_entry n a) (symbol_entry m b) t sort s u =
     let numbers : n ≡ m = s.0 ∙ sym u.0 in let symbols = one_symbol earlier a b t s.1 u.1 in rw (numbers, symbols) refl
-one_entry laws earlier (protocol_entry name a p) (protocol_entry other b q) t sort s u =
+one_entry earlier (protocol_entry name a p) (protocol_entry other b q) t sort s u =
     let names : name ≡ other = cc (s.1.0, u.1.0) in
     let interfaces = one_interface a b (operand 1 t) (operand 2 t) s.2 u.2 in
-    let bodies = laws.one_protocol (body_scope earlier) p q (operand 3 t) s.3 u.3 in
+    let bodies = one_protocol (body_scope earlier) p q (operand 3 t) s.3 u.3 in
     rw (names, interfaces, bodies) refl
-one_entry laws earlier (assumption_entry name left right) (assumption_entry name₂ left₂ right₂) t sort s u =
+one_entry earlier (assumption_entry name left right) (assumption_entry name₂ left₂ right₂) t sort s u =
     let names : name ≡ name₂ = cc (s.1.0, u.1.0) in
     let first : left ≡ left₂ = cc (s.2.0, u.2.0) in
     let second : right ≡ right₂ = cc (s.2.2, u.2.2) in
     rw (names, first, second) refl
-one_entry laws earlier (theorem_entry name left right lefts rights) (theorem_entry name₂ left₂ right₂ lefts₂ rights₂) t sort s u =
+one_entry earlier (theorem_entry name left right lefts rights) (theorem_entry name₂ left₂ right₂ lefts₂ rights₂) t sort s u =
     let names : name ≡ name₂ = cc (s.1.0, u.1.0) in
     let first : left ≡ left₂ = cc (s.2.0, u.2.0) in
     let second : right ≡ right₂ = cc (s.2.2, u.2.2) in
-    let firsts = one_side laws earlier (codes "left") lefts lefts₂ (operand 3 t) s.3 u.3 in
-    let seconds = one_side laws earlier (codes "right") rights rights₂ (operand 4 t) s.4 u.4 in
+    let firsts = one_side earlier (codes "left") lefts lefts₂ (operand 3 t) s.3 u.3 in
+    let seconds = one_side earlier (codes "right") rights rights₂ (operand 4 t) s.4 u.4 in
     rw (names, first, second, firsts, seconds) refl
-one_entry laws earlier e f t sort s u = cc
+one_entry earlier e f t sort s u = cc
+
+-- a tree spells one item
+pub one_item : (earlier : Earlier) (e f : Entry) (t : Placed) → SpellsEntry earlier e t → SpellsEntry earlier f t → e ≡ f
+one_item earlier e f t s u =
+    let sorts : Some (sort_of_entry e) ≡ Some (sort_of_entry f) = sym (entry_sort earlier e t s) ∙ entry_sort earlier f t u in
+    let sort : sort_of_entry e ≡ sort_of_entry f = cc sorts in one_entry earlier e f t sort s u
 
 -- ---- documents
 
-one_entries : (laws : TermLaws) (earlier : Earlier) (es fs : List Entry) (ts : Forest) → AreEntries earlier es ts → AreEntries earlier fs ts → es ≡ fs
-one_entries laws earlier [] [] ts s u = refl
-one_entries laws earlier [] (f ∷ fs) no_trees s u = absurd u
-one_entries laws earlier [] (f ∷ fs) (tree t ts) s u = absurd s
-one_entries laws earlier (e ∷ es) [] no_trees s u = absurd s
-one_entries laws earlier (e ∷ es) [] (tree t ts) s u = absurd u
-one_entries laws earlier (e ∷ es) (f ∷ fs) no_trees s u = absurd s
-one_entries laws earlier (e ∷ es) (f ∷ fs) (tree t ts) s u =
-    let sorts : Some (sort_of_entry e) ≡ Some (sort_of_entry f) = sym (entry_sort earlier e t s.0) ∙ entry_sort earlier f t u.0 in
-    let sort : sort_of_entry e ≡ sort_of_entry f = cc sorts in
-    let first = one_entry laws earlier e f t sort s.0 u.0 in
-    let rest = one_entries laws (earlier_with e earlier) es fs ts s.1 (subst (λ x. AreEntries (earlier_with x earlier) fs ts) (sym first) u.1) in
+one_entries : (earlier : Earlier) (es fs : List Entry) (ts : Forest) → AreEntries earlier es ts → AreEntries earlier fs ts → es ≡ fs
+one_entries earlier [] [] ts s u = refl
+one_entries earlier [] (f ∷ fs) no_trees s u = absurd u
+one_entries earlier [] (f ∷ fs) (tree t ts) s u = absurd s
+one_entries earlier (e ∷ es) [] no_trees s u = absurd s
+one_entries earlier (e ∷ es) [] (tree t ts) s u = absurd u
+one_entries earlier (e ∷ es) (f ∷ fs) no_trees s u = absurd s
+one_entries earlier (e ∷ es) (f ∷ fs) (tree t ts) s u =
+    let first = one_item earlier e f t s.0 u.0 in
+    let rest = one_entries (earlier_with e earlier) es fs ts s.1 (subst (λ x. AreEntries (earlier_with x earlier) fs ts) (sym first) u.1) in
     ap₂ (λ (x : Entry) (xs : List Entry). x ∷ xs) first rest
 
 same_document : (v w : ℕ) (symbols others : List Symbol) (es fs : List Entry) → v ≡ w → symbols ≡ others → es ≡ fs → ◌≡◌ {A = Document} (record { version = v; symbols = symbols; entries = es }) (record { version = w; symbols = others; entries = fs })
 same_document v w symbols others es fs versions tables entries = rw (versions, tables, entries) refl
 
 -- a tree spells one document
-pub one_document : (laws : TermLaws) (d e : Document) (t : Placed) → SpellsDocument d t → SpellsDocument e t → d ≡ e
-one_document laws d e t s u =
-    let entries = one_entries laws nothing_earlier d.entries e.entries (without_first (operands t)) s.3 u.3 in
+pub one_document : (d e : Document) (t : Placed) → SpellsDocument d t → SpellsDocument e t → d ≡ e
+one_document d e t s u =
+    let entries = one_entries nothing_earlier d.entries e.entries (without_first (operands t)) s.3 u.3 in
     same_document d.version e.version d.symbols e.symbols d.entries e.entries (s.1 ∙ sym u.1) (s.4 ∙ ap symbols_in entries ∙ sym u.4) entries

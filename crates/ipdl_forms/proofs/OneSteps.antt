@@ -10,7 +10,7 @@ use Rattle.ipdl_forms.specs.Lists.{parts_of, without_first, word_in, head_of, op
 use Rattle.ipdl_forms.specs.Scopes.{Scope}
 use Rattle.ipdl_forms.specs.Steps.{kind_of, Earlier, AreNumbers, SpellsPath, SpellsArgument, SpellsArguments, argument_kinds, SpellsApplication, SpellsTerm, dir_word, ArePairs, SpellsMove, step_scope, AreMoves, SpellsSide}
 use Rattle.ipdl_forms.proofs.StepForms.{application_kinds, not_rev, not_use, rules_apart}
-use Rattle.ipdl_forms.proofs.TermLaws.{TermLaws}
+use Rattle.ipdl_forms.proofs.One.{one_expression, one_protocol, one_reaction}
 use Rattle.ipdl_forms.proofs.TreeForms.{heads_apart}
 
 -- ---- paths
@@ -30,26 +30,26 @@ one_path path other t s u = one_numbers path other (parts_of t) s.1 u.1
 
 -- ---- the arguments of a rule
 
-one_argument : (laws : TermLaws) (scope : Scope) (a b : Argument) (t : Placed) → kind_of a ≡ kind_of b → SpellsArgument scope a t → SpellsArgument scope b t → a ≡ b
-one_argument laws scope (expression_argument e) (expression_argument f) t same s u =
-    ap expression_argument (laws.one_expression scope e f t s u)
-one_argument laws scope (symbol_argument f) (symbol_argument g) t same s u = cc
-one_argument laws scope (number_argument k) (number_argument l) t same s u = cc
-one_argument laws scope (name_argument c) (name_argument d) t same s u = cc
-one_argument laws scope (path_argument path) (path_argument other) t same s u = ap path_argument (one_path path other t s u)
-one_argument laws scope (width_argument v) (width_argument w) t same s u = cc (s.0, u.0)
-one_argument laws scope a b t same s u = cc
+one_argument : (scope : Scope) (a b : Argument) (t : Placed) → kind_of a ≡ kind_of b → SpellsArgument scope a t → SpellsArgument scope b t → a ≡ b
+one_argument scope (expression_argument e) (expression_argument f) t same s u =
+    ap expression_argument (one_expression scope e f t s u)
+one_argument scope (symbol_argument f) (symbol_argument g) t same s u = cc
+one_argument scope (number_argument k) (number_argument l) t same s u = cc
+one_argument scope (name_argument c) (name_argument d) t same s u = cc
+one_argument scope (path_argument path) (path_argument other) t same s u = ap path_argument (one_path path other t s u)
+one_argument scope (width_argument v) (width_argument w) t same s u = cc (s.0, u.0)
+one_argument scope a b t same s u = cc
 
-one_arguments : (laws : TermLaws) (scope : Scope) (more others : List Argument) (ts : Forest) → map kind_of more ≡ map kind_of others → SpellsArguments scope more ts → SpellsArguments scope others ts → more ≡ others
-one_arguments laws scope [] [] ts same s u = refl
-one_arguments laws scope [] (b ∷ others) ts same s u = cc
-one_arguments laws scope (a ∷ more) [] ts same s u = cc
-one_arguments laws scope (a ∷ more) (b ∷ others) no_trees same s u = absurd s
-one_arguments laws scope (a ∷ more) (b ∷ others) (tree t ts) same s u =
+one_arguments : (scope : Scope) (more others : List Argument) (ts : Forest) → map kind_of more ≡ map kind_of others → SpellsArguments scope more ts → SpellsArguments scope others ts → more ≡ others
+one_arguments scope [] [] ts same s u = refl
+one_arguments scope [] (b ∷ others) ts same s u = cc
+one_arguments scope (a ∷ more) [] ts same s u = cc
+one_arguments scope (a ∷ more) (b ∷ others) no_trees same s u = absurd s
+one_arguments scope (a ∷ more) (b ∷ others) (tree t ts) same s u =
     let kind : kind_of a ≡ kind_of b = cc in
     let kinds : map kind_of more ≡ map kind_of others = cc in
-    let first = one_argument laws scope a b t kind s.0 u.0 in
-    let rest = one_arguments laws scope more others ts kinds s.1 u.1 in
+    let first = one_argument scope a b t kind s.0 u.0 in
+    let rest = one_arguments scope more others ts kinds s.1 u.1 in
     cc
 
 -- ---- a rule with its place and arguments
@@ -58,14 +58,14 @@ same_application : (a b : Application) → a.rule ≡ b.rule → a.arguments ≡
 same_application a b rules arguments =
     let make : List ℕ → List Argument → Application = λ rule more. record { rule = rule; arguments = more } in ap₂ make rules arguments
 
-one_application : (laws : TermLaws) (scope : Scope) (path other : List ℕ) (a b : Application) (t : Placed) → SpellsApplication scope path a t → SpellsApplication scope other b t → a ≡ b
-one_application laws scope path other a b t s u =
+one_application : (scope : Scope) (path other : List ℕ) (a b : Application) (t : Placed) → SpellsApplication scope path a t → SpellsApplication scope other b t → a ≡ b
+one_application scope path other a b t s u =
     let rules : a.rule ≡ b.rule = cc (s.0, u.0) in
     let kinds : argument_kinds a.rule ≡ Some (map kind_of a.arguments) = application_kinds scope path a t s in
     let others : argument_kinds b.rule ≡ Some (map kind_of b.arguments) = application_kinds scope other b t u in
     let joined : Some (map kind_of a.arguments) ≡ Some (map kind_of b.arguments) = sym kinds ∙ ap argument_kinds rules ∙ others in
     let same : map kind_of a.arguments ≡ map kind_of b.arguments = cc joined in
-    same_application a b rules (one_arguments laws scope a.arguments b.arguments (without_first (operands t)) same s.2 u.2)
+    same_application a b rules (one_arguments scope a.arguments b.arguments (without_first (operands t)) same s.2 u.2)
 
 -- the list of a rule is no other step
 application_not_rev : (scope : Scope) (path : List ℕ) (a : Application) (t : Placed) → SpellsApplication scope path a t → head_of t ≡ Some (codes "rev") → ⊥
@@ -78,14 +78,14 @@ application_not_use scope path a t s is =
 
 -- ---- the TERM of a step backwards
 
-one_term : (laws : TermLaws) (scope : Scope) (rule : List ℕ) (a b : Term) (t : Placed) → SpellsTerm scope rule a t → SpellsTerm scope rule b t → a ≡ b
-one_term laws scope rule (protocol_term p) (protocol_term q) t s u = ap protocol_term (laws.one_protocol scope p q t s.1 u.1)
-one_term laws scope rule (protocol_term p) (reaction_term r) t s u = absurd (rules_apart rule u.0 s.0)
-one_term laws scope rule (protocol_term p) (expression_term e) t s u = absurd u
-one_term laws scope rule (reaction_term r) (protocol_term p) t s u = absurd (rules_apart rule s.0 u.0)
-one_term laws scope rule (reaction_term r) (reaction_term q) t s u = ap reaction_term (laws.one_reaction scope r q t s.1 u.1)
-one_term laws scope rule (reaction_term r) (expression_term e) t s u = absurd u
-one_term laws scope rule (expression_term e) b t s u = absurd s
+one_term : (scope : Scope) (rule : List ℕ) (a b : Term) (t : Placed) → SpellsTerm scope rule a t → SpellsTerm scope rule b t → a ≡ b
+one_term scope rule (protocol_term p) (protocol_term q) t s u = ap protocol_term (one_protocol scope p q t s.1 u.1)
+one_term scope rule (protocol_term p) (reaction_term r) t s u = absurd (rules_apart rule u.0 s.0)
+one_term scope rule (protocol_term p) (expression_term e) t s u = absurd u
+one_term scope rule (reaction_term r) (protocol_term p) t s u = absurd (rules_apart rule s.0 u.0)
+one_term scope rule (reaction_term r) (reaction_term q) t s u = ap reaction_term (one_reaction scope r q t s.1 u.1)
+one_term scope rule (reaction_term r) (expression_term e) t s u = absurd u
+one_term scope rule (expression_term e) b t s u = absurd s
 
 -- ---- pairs and directions
 
@@ -114,28 +114,28 @@ one_dir Rl Rl name is too = refl
 
 -- ---- steps
 
-one_step : (laws : TermLaws) (earlier : Earlier) (m n : Move) (t : Placed) → SpellsMove earlier m t → SpellsMove earlier n t → m ≡ n
-one_step laws earlier (forward path a) (forward other b) t s u =
-    ap₂ forward (one_path path other (operand 0 t) s.1 u.1) (one_application laws (step_scope earlier) path other a b t s u)
-one_step laws earlier (forward path a) (backward other b term) t s u =
+one_step : (earlier : Earlier) (m n : Move) (t : Placed) → SpellsMove earlier m t → SpellsMove earlier n t → m ≡ n
+one_step earlier (forward path a) (forward other b) t s u =
+    ap₂ forward (one_path path other (operand 0 t) s.1 u.1) (one_application (step_scope earlier) path other a b t s u)
+one_step earlier (forward path a) (backward other b term) t s u =
     absurd (application_not_rev (step_scope earlier) path a t s u.0.0)
-one_step laws earlier (forward path a) (invocation other name dir pairs) t s u =
+one_step earlier (forward path a) (invocation other name dir pairs) t s u =
     absurd (application_not_use (step_scope earlier) path a t s u.0.0)
-one_step laws earlier (backward path a term) (forward other b) t s u =
+one_step earlier (backward path a term) (forward other b) t s u =
     absurd (application_not_rev (step_scope earlier) other b t u s.0.0)
-one_step laws earlier (backward path a x) (backward other b y) t s u =
+one_step earlier (backward path a x) (backward other b y) t s u =
     let paths = one_path path other (operand 0 (operand 0 t)) s.1.1 u.1.1 in
-    let rules = one_application laws (step_scope earlier) path other a b (operand 0 t) s.1 u.1 in
+    let rules = one_application (step_scope earlier) path other a b (operand 0 t) s.1 u.1 in
     let back : SpellsTerm (step_scope earlier) a.rule y (operand 1 t) = subst (λ (c : Application). SpellsTerm (step_scope earlier) c.rule y (operand 1 t)) (sym rules) u.2 in
-    let terms = one_term laws (step_scope earlier) a.rule x y (operand 1 t) s.2 back in
+    let terms = one_term (step_scope earlier) a.rule x y (operand 1 t) s.2 back in
     rw (paths, rules, terms) refl
-one_step laws earlier (backward path a x) (invocation other name dir pairs) t s u =
+one_step earlier (backward path a x) (invocation other name dir pairs) t s u =
     absurd (heads_apart (codes "rev") (codes "use") (head_of t) s.0.0 u.0.0 refl)
-one_step laws earlier (invocation path name dir pairs) (forward other b) t s u =
+one_step earlier (invocation path name dir pairs) (forward other b) t s u =
     absurd (application_not_use (step_scope earlier) other b t u s.0.0)
-one_step laws earlier (invocation path name dir pairs) (backward other b y) t s u =
+one_step earlier (invocation path name dir pairs) (backward other b y) t s u =
     absurd (heads_apart (codes "use") (codes "rev") (head_of t) s.0.0 u.0.0 refl)
-one_step laws earlier (invocation path name dir pairs) (invocation path₂ name₂ dir₂ pairs₂) t s u =
+one_step earlier (invocation path name dir pairs) (invocation path₂ name₂ dir₂ pairs₂) t s u =
     let names : name ≡ name₂ = cc (s.1, u.1) in
     let paths = one_path path path₂ (operand 1 t) s.3 u.3 in
     let dirs = one_dir dir dir₂ (word_in (operand 2 t)) s.4 u.4 in
@@ -144,15 +144,15 @@ one_step laws earlier (invocation path name dir pairs) (invocation path₂ name�
 
 -- ---- scripts
 
-one_steps : (laws : TermLaws) (earlier : Earlier) (ms ns : List Move) (ts : Forest) → AreMoves earlier ms ts → AreMoves earlier ns ts → ms ≡ ns
-one_steps laws earlier [] [] ts s u = refl
-one_steps laws earlier [] (n ∷ ns) no_trees s u = absurd u
-one_steps laws earlier [] (n ∷ ns) (tree t ts) s u = absurd s
-one_steps laws earlier (m ∷ ms) [] no_trees s u = absurd s
-one_steps laws earlier (m ∷ ms) [] (tree t ts) s u = absurd u
-one_steps laws earlier (m ∷ ms) (n ∷ ns) no_trees s u = absurd s
-one_steps laws earlier (m ∷ ms) (n ∷ ns) (tree t ts) s u =
-    let first = one_step laws earlier m n t s.0 u.0 in let rest = one_steps laws earlier ms ns ts s.1 u.1 in cc
+one_steps : (earlier : Earlier) (ms ns : List Move) (ts : Forest) → AreMoves earlier ms ts → AreMoves earlier ns ts → ms ≡ ns
+one_steps earlier [] [] ts s u = refl
+one_steps earlier [] (n ∷ ns) no_trees s u = absurd u
+one_steps earlier [] (n ∷ ns) (tree t ts) s u = absurd s
+one_steps earlier (m ∷ ms) [] no_trees s u = absurd s
+one_steps earlier (m ∷ ms) [] (tree t ts) s u = absurd u
+one_steps earlier (m ∷ ms) (n ∷ ns) no_trees s u = absurd s
+one_steps earlier (m ∷ ms) (n ∷ ns) (tree t ts) s u =
+    let first = one_step earlier m n t s.0 u.0 in let rest = one_steps earlier ms ns ts s.1 u.1 in cc
 
-pub one_side : (laws : TermLaws) (earlier : Earlier) (side : List ℕ) (ms ns : List Move) (t : Placed) → SpellsSide earlier side ms t → SpellsSide earlier side ns t → ms ≡ ns
-one_side laws earlier side ms ns t s u = one_steps laws earlier ms ns (operands t) s.1 u.1
+pub one_side : (earlier : Earlier) (side : List ℕ) (ms ns : List Move) (t : Placed) → SpellsSide earlier side ms t → SpellsSide earlier side ns t → ms ≡ ns
+one_side earlier side ms ns t s u = one_steps earlier ms ns (operands t) s.1 u.1

@@ -1,12 +1,11 @@
 -- The names of outer variables: `x` and a number in decimal digits.
 use Rattle.std.proofs.Common.{◌≡◌, ℕ, zero, suc, ◌+◌, ◌*◌, ◌-◌, ◌/◌, ◌%◌, ◌^◌, ◌<◌, ◌≤◌, ◌==◌, Bool, true, false, ◌&&◌, not, List, [], ◌∷◌, ◌++◌, Option, Some, None, if◌then◌else◌, refl, sym, ap, subst, ◌∙◌, append_assoc, arith}
-use Rattle.std.specs.Prelude.{nat_le, nat_lt}
+use Rattle.std.specs.Prelude.{nat_le, nat_lt, codes}
 use Rattle.std.specs.Fmt.{decimal}
 use Rattle.std.proofs.lemmas.Bool.{and_parts, le-leb, lt-ltb, leb-true, ltb-true, eqb-true}
 use Rattle.std.proofs.lemmas.Bool.Decides.{nat_tests}
 use Rattle.std.proofs.lemmas.Fmt.{decimal_by_steps, decimal_digit, decimal_step}
 use Rattle.std.proofs.lemmas.List.{append-nil}
-use Rattle.ipdl_forms.specs.Printing.{binder_name}
 use Rattle.ipdl_forms.specs.Scopes.{is_digit, number_on, number_spelled, outer_number}
 
 -- ---- tests
@@ -107,7 +106,7 @@ decimal-number_spelled n below =
 
 -- ---- names
 
-pub outer_number-name : (name : List ℕ) (n : ℕ) → outer_number name ≡ Some n → (name ≡ binder_name n) × (n < 2 ^ 32)
+pub outer_number-name : (name : List ℕ) (n : ℕ) → outer_number name ≡ Some n → (name ≡ codes "x" ++ decimal n) × (n < 2 ^ 32)
 outer_number-name [] n is = cc
 outer_number-name (c ∷ digits) n is =
     let test = let_through (c == 120) (number_spelled digits) n is in
@@ -115,5 +114,5 @@ outer_number-name (c ∷ digits) n is =
     let rest = number_spelled-decimal digits n test.1 in
     (ap (λ x. x ∷ digits) letter ∙ ap (λ x. 120 ∷ x) rest.0, rest.1)
 
-pub outer_number-binder_name : (name : List ℕ) (n : ℕ) → name ≡ binder_name n → n < 2 ^ 32 → outer_number name ≡ Some n
-outer_number-binder_name name n is below = ap outer_number is ∙ decimal-number_spelled n below
+pub outer_number-decimal : (name : List ℕ) (n : ℕ) → name ≡ codes "x" ++ decimal n → n < 2 ^ 32 → outer_number name ≡ Some n
+outer_number-decimal name n is below = ap outer_number is ∙ decimal-number_spelled n below

@@ -1,5 +1,3 @@
-pub mod Printing
-pub mod Within
 pub mod Faults
 pub mod Lists
 pub mod Operators
@@ -18,5 +16,4 @@ pub mod Items
 pub mod Lookups
 pub mod Earlier
 pub mod Parts
-pub mod Shown
 pub mod Limits

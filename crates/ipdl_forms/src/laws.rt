@@ -1,13 +1,13 @@
 //! Laws of documents: one tree spells one term and one document, whatever its places, and no test
 //! fails at what is spelled.
 
-ghost use Rattle.std.specs.Prelude.{◌≡◌, ℕ, ◌^◌, ◌<◌, ◌↔◌, List, [], Option, Some};
+ghost use Rattle.std.specs.Prelude.{◌≡◌, ℕ, ◌^◌, ◌<◌, ◌↔◌, ◌++◌, List, [], codes, Option, Some};
+ghost use Rattle.std.specs.Fmt.{decimal};
 ghost use Rattle.ipdl_forms.specs.Counts.{IsWithinNodes, counted};
 ghost use Rattle.ipdl_forms.specs.Documents.{Document};
 ghost use Rattle.ipdl_forms.specs.Expressions.{SpellsExpression, expression_faults};
 ghost use Rattle.ipdl_forms.specs.Items.{SpellsDocument, document_faults};
 ghost use Rattle.ipdl_forms.specs.Limits.{IsWithinLimits};
-ghost use Rattle.ipdl_forms.specs.Printing.{binder_name};
 ghost use Rattle.ipdl_forms.specs.Protocols.{SpellsProtocol, protocol_faults};
 ghost use Rattle.ipdl_forms.specs.Reactions.{SpellsReaction, reaction_faults};
 ghost use Rattle.ipdl_forms.specs.Scopes.{Scope, outer_number};
@@ -68,9 +68,9 @@ pub fn places_are_free()
         SpellsDocument d t → without_places t ≡ without_places u → SpellsDocument d u }
 {}
 
-/// A name is that of an outer variable where it is what the binder at the depth is printed as, and
-/// the depth fits 32 bits.
+/// A name is that of an outer variable where it is `x` and its number in decimal digits, and the
+/// number fits 32 bits.
 pub fn outer_names()
     ensures { (name : List ℕ) (n : ℕ) →
-        (outer_number name ≡ Some n) ↔ ((name ≡ binder_name n) × (n < 2 ^ 32)) }
+        (outer_number name ≡ Some n) ↔ ((name ≡ codes "x" ++ decimal n) × (n < 2 ^ 32)) }
 {}

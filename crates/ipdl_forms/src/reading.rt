@@ -10,7 +10,5 @@ pub(crate) mod reactions;
 pub(crate) mod rules;
 pub(crate) mod steps;
 pub(crate) mod symbols;
-#[cfg(test)]
-mod tests;
 pub(crate) mod uses;
 pub(crate) mod words;

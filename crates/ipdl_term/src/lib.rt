@@ -20,8 +20,6 @@ mod sets;
 mod settling;
 mod sizes;
 mod step;
-#[cfg(test)]
-mod tests;
 mod words;
 mod worked;
 

@@ -3,10 +3,9 @@ use Rattle.std.proofs.Common.{ℕ, Bool, true, false, List, [], ◌∷◌}
 use Rattle.std.specs.Prelude.{bytes_eq, if◌then◌else◌}
 use Rattle.ipdl_term.specs.Terms.{Protocol, nil, assignment, parallel, hiding}
 use Rattle.ipdl_forms.specs.Documents.{Entry, symbol_entry, protocol_entry, assumption_entry, theorem_entry}
-use Rattle.ipdl_forms.specs.Within.{IsProtocolWithin}
-use Rattle.ipdl_top.specs.Chains.{body_named}
+use Rattle.ipdl_printing.specs.Within.{IsProtocolWithin}
 use Rattle.ipdl_top.specs.Ends.{exchanged}
-use Rattle.ipdl_top.specs.Lookups.{Network, HasBodiesWithin, network_named}
+use Rattle.ipdl_top.specs.Lookups.{Network, HasBodiesWithin, network_named, body_named}
 
 one_of : (count : ℕ) (b : Bool) (first rest : Network) → IsProtocolWithin count first.body → IsProtocolWithin count rest.body → IsProtocolWithin count (if b then first else rest).body
 one_of count true first rest within later = within

@@ -10,7 +10,7 @@ use Rattle.ipdl_tree.specs.declared.tree.Node.TheVariants.{Group, rolls-Group}
 use Rattle.ipdl_tree.specs.Trees.{Placed, place_of, group}
 use Rattle.ipdl_tree.specs.Views.{placed, all_placed, node_placed, tree_placed}
 use Rattle.ipdl_forms.specs.Lists.{tree_at, without_first}
-use Rattle.ipdl_top.specs.Built.{item_place}
+use Rattle.ipdl_top.specs.Scripts.{item_place}
 
 -- ---- a tree begins at its place
 

@@ -5,7 +5,10 @@ pub mod Differences
 pub mod Spelled
 pub mod Bodies
 pub mod Texts
-pub mod Verdicts
+pub mod ItemTypes
+pub mod Counts
+pub mod Exchanges
+pub mod SourceStatuses
 pub mod Replies
 pub mod ItemPlaces
 pub mod Refused

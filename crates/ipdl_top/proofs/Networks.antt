@@ -27,6 +27,5 @@ network_named-items symbols (I.Assumption a ∷ items) name = network_named-item
 network_named-items symbols (I.Theorem t ∷ items) name = network_named-items symbols items name
 
 -- what was found among the items
-pub network_named-found : (symbols : List Symbol) (items slice : List Item) (name : List ℕ) (found : Option ProtocolItem) → slice ≡ items → found ≡ protocol_named slice name → network_named (map (entry_of symbols) items) name ≡ network_of found
-network_named-found symbols items slice name found same e =
-    network_named-items symbols items name ∙ ap network_of (sym (e ∙ ap (λ xs. protocol_named xs name) same))
+pub network_named-found : (symbols : List Symbol) (items : List Item) (name : List ℕ) (found : Option ProtocolItem) → found ≡ protocol_named items name → network_named (map (entry_of symbols) items) name ≡ network_of found
+network_named-found symbols items name found e = network_named-items symbols items name ∙ ap network_of (sym e)

@@ -1,12 +1,14 @@
 -- What a text that was written, or the front of it, says of the reply.
-use Rattle.std.proofs.Common.{◌≡◌, ◌≢◌, ℕ, ◌+◌, ◌≤◌, List, ◌++◌, length, Option, Some, None, refl, sym, ap, subst, ◌∙◌, inl, inr, append-nil, length-append, arith}
+use Rattle.std.proofs.Common.{◌≡◌, ℕ, ◌+◌, ◌≤◌, List, ◌++◌, length, Option, Some, None, refl, sym, ap, subst, ◌∙◌, inl, inr, append-nil, length-append, arith}
 use Rattle.std.specs.Io.KnownBytes.{prepend_known, IsAtEnd}
 use Rattle.ipdl_io.specs.Faults.{DidNotRise}
 use Rattle.ipdl_top.specs.declared.status.Status.{Status}
 use Rattle.ipdl_top.specs.declared.status.Status.TheVariants.{Usage, OverLimit}
-use Rattle.ipdl_top.specs.Words.{check_words}
+use Rattle.ipdl_top.specs.declared.command.Command.{Command}
+use Rattle.ipdl_top.specs.Words.{command_words, AreOfNoForm}
 use Rattle.ipdl_top.specs.Transfers.{source_limit, Gave, GaveTooMany}
-use Rattle.ipdl_top.specs.Replies.{reply_of, over_reply, IsReply, IsReplyWithin, usage_reply}
+use Rattle.ipdl_top.specs.Replies.{over_reply, IsReply, IsReplyWithin, usage_reply}
+use Rattle.ipdl_top.specs.Statuses.{reply_of}
 use Rattle.ipdl_top.specs.Runs.{IsVerdict, IsFinished, IsReplied, IsRepliedFront}
 
 -- the text that is planned belongs to a reply to the words and to all bytes that the source tells
@@ -35,7 +37,7 @@ IsRepliedFront-finished {planned = planned} {text = text} plan finished bytes e 
 
 -- ---- plans
 
-pub IsPlanned-usage : (words : List (List ℕ)) (left : Option (List ℕ)) → words ≢ check_words → IsPlanned words left Usage usage_reply.text
+pub IsPlanned-usage : (words : List (List ℕ)) (left : Option (List ℕ)) → AreOfNoForm words → IsPlanned words left Usage usage_reply.text
 IsPlanned-usage words left none bytes e = inl (none, refl)
 
 -- what was told at first is what was given and what is told after
@@ -43,12 +45,12 @@ told_bytes : (left : Option (List ℕ)) (bytes given : List ℕ) → prepend_kno
 told_bytes None bytes given e = cc
 told_bytes (Some rest) bytes given e = (rest, refl, cc)
 
-pub IsPlanned-over : (words : List (List ℕ)) (left left' : Option (List ℕ)) → words ≡ check_words → GaveTooMany left left' → IsPlanned words left OverLimit over_reply.text
-IsPlanned-over words left left' check gave bytes e =
+pub IsPlanned-over : (command : Command) (words : List (List ℕ)) (left left' : Option (List ℕ)) → words ≡ command_words command → GaveTooMany left left' → IsPlanned words left OverLimit over_reply.text
+IsPlanned-over command words left left' form gave bytes e =
     let told = told_bytes left' bytes gave.0 (sym gave.2 ∙ e) in
     let long : length bytes ≡ length gave.0 + length told.0 = ap length told.2 ∙ length-append gave.0 told.0 in
     let many : length gave.0 ≡ source_limit + 1 = gave.1 in
-    inr (check, inl (omega arith, refl))
+    inr (command, form, inl (omega arith, refl))
 
 -- all bytes are those that were given, where nothing is left after them
 pub all_bytes : (left left' : Option (List ℕ)) (bytes given : List ℕ) → Gave left left' given → IsAtEnd left' → left ≡ Some bytes → bytes ≡ given
@@ -58,8 +60,8 @@ all_bytes left (Some rest) bytes given gave at_end e =
     let nothing : told.0 ≡ rest = cc (told.1) in
     told.2 ∙ ap (λ more. given ++ more) (nothing ∙ at_end) ∙ append-nil given
 
-pub IsPlanned-within : (words : List (List ℕ)) (left left' : Option (List ℕ)) (given : List ℕ) (planned : Status) (text : List ℕ) → words ≡ check_words → length given ≤ source_limit → Gave left left' given → IsAtEnd left' → IsReplyWithin given (reply_of planned text) → IsPlanned words left planned text
-IsPlanned-within words left left' given planned text check within gave at_end reply bytes e =
+pub IsPlanned-within : (command : Command) (words : List (List ℕ)) (left left' : Option (List ℕ)) (given : List ℕ) (planned : Status) (text : List ℕ) → words ≡ command_words command → length given ≤ source_limit → Gave left left' given → IsAtEnd left' → IsReplyWithin command given (reply_of planned text) → IsPlanned words left planned text
+IsPlanned-within command words left left' given planned text form within gave at_end reply bytes e =
     let same : bytes ≡ given = all_bytes left left' bytes given gave at_end e in
     let P : List ℕ → Type 0 = λ all. IsReply words all (reply_of planned text) in
-    subst P (sym same) (inr (check, inr (within, reply)))
+    subst P (sym same) (inr (command, form, inr (within, reply)))

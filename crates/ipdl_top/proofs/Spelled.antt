@@ -14,7 +14,7 @@ use Rattle.ipdl_forms.specs.Protocols.{SpellsProtocol, beside_first, under_first
 use Rattle.ipdl_forms.specs.Reactions.{SpellsReaction}
 use Rattle.ipdl_forms.specs.Scopes.{Scope, under_binder, place_among, symbol_number, bound_variable}
 use Rattle.ipdl_forms.specs.Steps.{Earlier}
-use Rattle.ipdl_forms.specs.Within.{IsExpressionWithin, IsReactionWithin, IsProtocolWithin}
+use Rattle.ipdl_printing.specs.Within.{IsExpressionWithin, IsReactionWithin, IsProtocolWithin}
 use Rattle.ipdl_top.specs.Lookups.{HasBodiesWithin}
 
 -- ---- names

@@ -1,12 +1,15 @@
 -- Texts that are put together piece by piece.
-use Rattle.std.proofs.Common.{◌≡◌, ℕ, List, [], ◌++◌, ap, ◌∙◌, append_assoc}
+use Rattle.std.proofs.Common.{◌≡◌, ℕ, List, [], ◌∷◌, ◌++◌, length, sym, ap, ap₂, ◌∙◌, append_assoc, append-nil}
 use Rattle.std.specs.Prelude.{codes}
 use Rattle.std.specs.Fmt.{decimal}
 use Rattle.ipdl_sig.specs.declared.symbol.Symbol.{Symbol}
 use Rattle.ipdl_term.specs.Terms.{Protocol}
-use Rattle.ipdl_forms.specs.Documents.{Document}
+use Rattle.ipdl_base.specs.declared.limit.Limit.{Limit}
 use Rattle.ipdl_top.specs.Ends.{exchanged}
-use Rattle.ipdl_top.specs.Chains.{theorem_line, term_line, exchange_line, exact_line, chain_text, items_text, theorem_count, accepted_line, accepted_text}
+use Rattle.ipdl_top.specs.Lines.{limit_name, limit_at_line}
+use Rattle.ipdl_top.specs.Chains.{theorem_line, term_line, exchange_line, exact_line, chain_text, items_text, theorem_count, accepted_line, proved_text}
+use Rattle.ipdl_top.specs.Summaries.{item_summaries, typed_line, summary_text}
+use Rattle.ipdl_forms.specs.Documents.{Document, Entry}
 
 -- five pieces, one after the other
 five_pieces : (s₀ a b c d e s₁ s₂ s₃ s₄ s₅ : List ℕ) → s₁ ≡ s₀ ++ a → s₂ ≡ s₁ ++ b → s₃ ≡ s₂ ++ c → s₄ ≡ s₃ ++ d → s₅ ≡ s₄ ++ e → s₅ ≡ s₀ ++ ((((a ++ b) ++ c) ++ d) ++ e)
@@ -28,8 +31,27 @@ chain_text-pieces symbols theorem left right body term turned begin s₀ s₁ s�
 pub accepted_line-pieces : (theorems : ℕ) → codes "accepted theorems " ++ (decimal theorems ++ (codes " neighbours " ++ (decimal theorems ++ codes "\n"))) ≡ accepted_line theorems theorems
 accepted_line-pieces theorems = simp append_assoc
 
+-- the lines of limits that a theorem passes, as the code writes them
+pub limit_at_theorem-pieces : (limit : Limit) (number : ℕ) (theorem old name shown s t : List ℕ) → old ≡ [] → name ≡ limit_name limit → shown ≡ theorem → s ≡ old ++ (codes "limit " ++ (name ++ (codes " " ++ (decimal number ++ (codes " at theorem " ++ (shown ++ codes "\n")))))) → t ≡ s → t ≡ limit_at_line limit number (codes "theorem" ∷ theorem ∷ [])
+limit_at_theorem-pieces limit number theorem old name shown s t e₀ e₁ e₂ e₃ e₄ =
+    e₄ ∙ e₃ ∙ rw (e₀, e₁, e₂) (simp append_assoc)
+
+pub limit_at_step-pieces : (limit : Limit) (number : ℕ) (theorem old name shown s t : List ℕ) → old ≡ [] → name ≡ limit_name limit → shown ≡ theorem → s ≡ old ++ (codes "limit " ++ (name ++ (codes " " ++ (decimal number ++ (codes " at theorem " ++ (shown ++ codes " left 1\n")))))) → t ≡ s → t ≡ limit_at_line limit number (codes "theorem" ∷ theorem ∷ codes "left 1" ∷ [])
+limit_at_step-pieces limit number theorem old name shown s t e₀ e₁ e₂ e₃ e₄ =
+    e₄ ∙ e₃ ∙ rw (e₀, e₁, e₂) (simp append_assoc)
+
+-- all lines of items, and the last line
+pub summary_text-pieces : (d : Document) (rest : List Entry) (count : ℕ) (line last s₁ s₂ : List ℕ) → rest ≡ [] → item_summaries d.entries ≡ s₁ ++ item_summaries rest → count ≡ length d.entries → last ≡ line → line ≡ typed_line count → s₂ ≡ s₁ ++ last → s₂ ≡ summary_text d
+unfolding summary_text
+summary_text-pieces d rest count line last s₁ s₂ ended written e₀ e₁ e₂ e₃ =
+    e₃
+    ∙ ap₂ (λ s l. s ++ l) (sym (written ∙ ap (λ r. s₁ ++ item_summaries r) ended ∙ append-nil s₁))
+    (e₁ ∙ e₂ ∙ ap typed_line e₀)
+
 -- all chains, and the last line
-pub accepted_text-pieces : (d : Document) (count : ℕ) (last s₁ s₂ : List ℕ) → count ≡ theorem_count d.entries → last ≡ accepted_line count count → s₁ ≡ [] ++ items_text d.symbols d.entries d.entries → s₂ ≡ s₁ ++ last → s₂ ≡ accepted_text d
-unfolding accepted_text
-accepted_text-pieces d count last s₁ s₂ same e₀ e₁ e₂ =
-    e₂ ∙ ap (λ s. s ++ last) e₁ ∙ ap (λ l. items_text d.symbols d.entries d.entries ++ l) (e₀ ∙ ap (λ n. accepted_line n n) same)
+pub proved_text-pieces : (d : Document) (rest : List Entry) (s₁ s₂ : List ℕ) → rest ≡ [] → items_text d.symbols d.entries d.entries ≡ s₁ ++ items_text d.symbols d.entries rest → s₂ ≡ s₁ ++ accepted_line (theorem_count d.entries) (theorem_count d.entries) → s₂ ≡ proved_text d
+unfolding proved_text
+proved_text-pieces d rest s₁ s₂ ended written e =
+    e
+    ∙ ap (λ s. s ++ accepted_line (theorem_count d.entries) (theorem_count d.entries))
+    (sym (written ∙ ap (λ r. s₁ ++ items_text d.symbols d.entries r) ended ∙ append-nil s₁))

@@ -1,52 +1,14 @@
 -- The chains of a document, and the text of them.
-use Rattle.std.specs.Prelude.{◌≡◌, ℕ, suc, List, [], ◌∷◌, ◌++◌, map, Option, None, option_map, codes}
+use Rattle.std.specs.Prelude.{ℕ, suc, List, [], ◌∷◌, ◌++◌, codes}
 use Rattle.std.specs.Fmt.{decimal}
-use Rattle.std.specs.Option.{option_or}
 use Rattle.ipdl_sig.specs.declared.symbol.Symbol.{Symbol}
 use Rattle.ipdl_term.specs.Terms.{Protocol}
 use Rattle.ipdl_tree.specs.Spelling.{tree_text}
 use Rattle.ipdl_forms.specs.Documents.{Document, Entry, symbol_entry, protocol_entry, assumption_entry, theorem_entry}
-use Rattle.ipdl_forms.specs.Printing.{protocol_tree}
-use Rattle.ipdl_top.specs.Words.{line, spaced, in_parentheses}
-use Rattle.ipdl_top.specs.Ends.{exchanged, differing_place}
-use Rattle.ipdl_top.specs.Lookups.{network_named}
-
--- the body of the protocol of the name
-abbrev pub body_named : List Entry → List ℕ → Protocol
-body_named entries name = (network_named entries name).body
-
--- ---- the ends
-
--- what the exchange makes of the left body is the right body
-abbrev pub Meets : List Entry → Entry → Type 0
-Meets entries (theorem_entry name left right lefts rights) =
-    exchanged (body_named entries left) ≡ body_named entries right
-Meets entries _ = Unit {0}
-
-abbrev pub AllMeet : List Entry → List Entry → Type 0
-AllMeet entries [] = Unit {0}
-AllMeet entries (item ∷ items) = Meets entries item × AllMeet entries items
-
--- a place, as it is printed
-abbrev pub place_text : List ℕ → List ℕ
-place_text place = in_parentheses (map decimal place)
-
--- the line of a theorem whose ends differ first at a place
-abbrev pub ends_line : (theorem : List ℕ) → (place : List ℕ) → List ℕ
-ends_line theorem place = line (spaced (codes "wrong" ∷ theorem ∷ codes "ends" ∷ place_text place ∷ []))
-
--- the line of an item whose ends differ
-abbrev pub wrong_line : List Entry → Entry → Option (List ℕ)
-wrong_line entries (theorem_entry name left right lefts rights) =
-    option_map (ends_line name) (differing_place (exchanged (body_named entries left)) (body_named entries right))
-wrong_line entries _ = None
-
--- the line of the first item whose ends differ
-abbrev pub first_wrong_line : List Entry → List Entry → Option (List ℕ)
-first_wrong_line entries [] = None
-first_wrong_line entries (item ∷ items) = option_or (wrong_line entries item) (first_wrong_line entries items)
-
--- ---- the texts
+use Rattle.ipdl_printing.specs.Printing.{protocol_tree}
+use Rattle.ipdl_top.specs.Words.{line, spaced}
+use Rattle.ipdl_top.specs.Ends.{exchanged}
+use Rattle.ipdl_top.specs.Lookups.{body_named}
 
 -- the line that begins a chain
 abbrev pub theorem_line : (theorem left right : List ℕ) → List ℕ
@@ -93,6 +55,6 @@ accepted_line theorems neighbours =
     line (spaced (codes "accepted theorems" ∷ decimal theorems ∷ codes "neighbours" ∷ decimal neighbours ∷ []))
 
 -- all chains in order, and the last line: each theorem has one neighbour
-unfoldable pub accepted_text : Document → List ℕ
-accepted_text d =
+unfoldable pub proved_text : Document → List ℕ
+proved_text d =
     items_text d.symbols d.entries d.entries ++ accepted_line (theorem_count d.entries) (theorem_count d.entries)

@@ -4,7 +4,7 @@ use Rattle.ipdl_term.specs.declared.interface.Port.{Port}
 use Rattle.ipdl_term.specs.Terms.{Protocol, literal, returning, assignment, parallel}
 use Rattle.ipdl_tree.specs.Trees.{Placed, word, number, group, no_trees}
 use Rattle.ipdl_forms.specs.Documents.{Document, Entry, protocol_entry, theorem_entry, forward}
-use Rattle.ipdl_forms.specs.Printing.{headed, port_tree, protocol_tree}
+use Rattle.ipdl_printing.specs.Printing.{headed, port_tree, protocol_tree}
 
 -- `(out CHANNEL (ret LITERAL))`, of one bit
 abbrev pub bit_assignment : List ℕ → Bool → Protocol

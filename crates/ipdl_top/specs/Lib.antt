@@ -2,10 +2,13 @@ pub mod Transfers
 pub mod Stops
 pub mod Words
 pub mod Lines
+pub mod Statuses
 pub mod Ends
 pub mod Lookups
-pub mod Built
+pub mod Typed
+pub mod Summaries
 pub mod Chains
+pub mod Scripts
 pub mod Replies
 pub mod Runs
 pub mod Examples

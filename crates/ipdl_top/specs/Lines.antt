@@ -51,3 +51,8 @@ form_line offset cause = line (spaced (codes "form" ∷ decimal offset ∷ cause
 abbrev pub limit_line : Limit → (offset : ℕ) → List ℕ
 limit_line limit offset =
     line (spaced (codes "limit" ∷ limit_name limit ∷ decimal (limit_number limit) ∷ codes "at byte" ∷ decimal offset ∷ []))
+
+-- a count that passes this number at what the words name
+abbrev pub limit_at_line : Limit → (number : ℕ) → (at_what : List (List ℕ)) → List ℕ
+limit_at_line limit number at_what =
+    line (spaced (codes "limit" ∷ limit_name limit ∷ decimal number ∷ codes "at" ∷ at_what))

@@ -3,16 +3,19 @@ use Rattle.std.specs.Prelude.{ℕ, List, [], ◌∷◌, bytes_eq, if◌then◌el
 use Rattle.ipdl_term.specs.declared.interface.Interface.{Interface}
 use Rattle.ipdl_term.specs.Terms.{Protocol, nil}
 use Rattle.ipdl_forms.specs.Documents.{Entry, symbol_entry, protocol_entry, assumption_entry, theorem_entry}
-use Rattle.ipdl_forms.specs.Within.{IsProtocolWithin}
+use Rattle.ipdl_printing.specs.Within.{IsProtocolWithin}
 
 -- a protocol with its interface
 pub record Network : Type 0 where
   pub interface : Interface
   pub body : Protocol
 
+abbrev pub no_interface : Interface
+no_interface = record { inputs = []; outputs = [] }
+
 -- what stands for a protocol that is not there: one of no channels
 abbrev pub no_network : Network
-no_network = record { interface = record { inputs = []; outputs = [] }; body = nil }
+no_network = record { interface = no_interface; body = nil }
 
 -- the first protocol of the name
 abbrev pub network_named : List Entry → List ℕ → Network
@@ -22,6 +25,13 @@ network_named (protocol_entry other interface body ∷ entries) name =
     if bytes_eq other name then record { interface = interface; body = body } else network_named entries name
 network_named (assumption_entry other left right ∷ entries) name = network_named entries name
 network_named (theorem_entry other left right lefts rights ∷ entries) name = network_named entries name
+
+-- the interface and the body of the protocol of the name
+abbrev pub interface_named : List Entry → List ℕ → Interface
+interface_named entries name = (network_named entries name).interface
+
+abbrev pub body_named : List Entry → List ℕ → Protocol
+body_named entries name = (network_named entries name).body
 
 -- the bodies of the protocols name symbols among so many, and each variable in them has a binder
 abbrev pub HasBodiesWithin : ℕ → List Entry → Type 0

@@ -1,5 +1,5 @@
 -- What is answered to words and bytes.
-use Rattle.std.specs.Prelude.{◌≡◌, ◌≢◌, ℕ, ◌<◌, ◌≤◌, List, [], length, Some, None, codes, ◌⊎◌}
+use Rattle.std.specs.Prelude.{◌≡◌, ℕ, ◌<◌, ◌≤◌, List, [], length, Some, None, codes, ◌⊎◌}
 use Rattle.ipdl_base.specs.declared.limit.Limit.TheVariants.{Depth}
 use Rattle.ipdl_tree.specs.Refusals.{Cause, bad_byte, bad_name, unclosed, extra, no_text, deep, refusal}
 use Rattle.ipdl_tree.specs.declared.fault.SpellCause.TheVariants.{BadByte, BadName, Unclosed, Extra, NoText}
@@ -12,30 +12,16 @@ use Rattle.ipdl_forms.specs.Limits.{IsWithinLimits}
 use Rattle.ipdl_forms.specs.declared.fault.DocFault.{DocFault}
 use Rattle.ipdl_forms.specs.declared.fault.DocFault.TheVariants as F
 use Rattle.ipdl_top.specs.Transfers.{source_limit}
-use Rattle.ipdl_top.specs.declared.status.Status.{Status}
-use Rattle.ipdl_top.specs.declared.status.Status.TheVariants.{Accepted, WrongStep, BadSource, Usage, ReadFault, WriteFault, Memory, OverLimit}
-use Rattle.ipdl_top.specs.Words.{check_words, line}
+use Rattle.ipdl_top.specs.declared.command.Command.{Command}
+use Rattle.ipdl_top.specs.declared.command.Command.TheVariants.{Check, Types}
+use Rattle.ipdl_top.specs.declared.status.Status.TheVariants.{Accepted, BadSource, Usage, ReadFault, Memory, OverLimit}
+use Rattle.ipdl_top.specs.Words.{command_words, AreOfNoForm, line}
 use Rattle.ipdl_top.specs.Lines.{spell_cause_name, form_cause_name, spell_line, form_line, limit_line}
-use Rattle.ipdl_top.specs.Built.{first_not_built, item_place, AreBuilt}
-use Rattle.ipdl_top.specs.Chains.{AllMeet, first_wrong_line, accepted_text}
-
--- a status, and the text that is written with it
-pub record Reply : Type 0 where
-  pub status : Status
-  pub text : List ℕ
-
-abbrev pub reply_of : Status → List ℕ → Reply
-reply_of status text = record { status = status; text = text }
-
-abbrev pub status_number : Status → ℕ
-status_number Accepted = 0
-status_number WrongStep = 1
-status_number BadSource = 2
-status_number Usage = 3
-status_number ReadFault = 4
-status_number WriteFault = 5
-status_number Memory = 6
-status_number OverLimit = 7
+use Rattle.ipdl_top.specs.Chains.{proved_text}
+use Rattle.ipdl_top.specs.Scripts.{first_theorem_refusal, IsProvedDocument}
+use Rattle.ipdl_top.specs.Statuses.{Reply, reply_of}
+use Rattle.ipdl_top.specs.Summaries.{summary_text}
+use Rattle.ipdl_top.specs.Typed.{first_item_refusal, IsTypedDocument}
 
 -- words of no form
 abbrev pub usage_reply : Reply
@@ -66,10 +52,6 @@ document_fault_reply (F.Form pos cause) = reply_of BadSource (form_line pos.0 (f
 document_fault_reply (F.Over limit pos) = reply_of OverLimit (limit_line limit pos.0)
 document_fault_reply F.Memory = reply_of Memory []
 
--- an item at an offset that is not built
-abbrev pub not_built_reply : ℕ → Reply
-not_built_reply offset = reply_of BadSource (form_line offset (codes "NotBuilt"))
-
 -- the bytes are refused before they spell a tree
 abbrev pub IsUnspelled : List ℕ → Reply → Type 0
 IsUnspelled bytes reply =
@@ -86,42 +68,61 @@ pub record IsRead (d : Document) (t : Placed) : Type 0 where
   pub within : IsWithinLimits d
   pub spelled : SpellsDocument d t
 
--- an item is not built
-abbrev pub IsNotBuilt : Document → Placed → Reply → Type 0
-IsNotBuilt d t reply =
-    (number : ℕ) × (first_not_built d.entries ≡ Some number) × (reply ≡ not_built_reply (item_place t number))
+-- a test of an item fails
+abbrev pub IsIll : Document → Reply → Type 0
+IsIll d reply = first_item_refusal d.symbols d.entries d.entries ≡ Some reply
 
--- the ends of a theorem differ
-abbrev pub IsWrong : Document → Reply → Type 0
-IsWrong d reply =
-    (text : List ℕ) × AreBuilt d.entries d.entries × (first_wrong_line d.entries d.entries ≡ Some text)
-    × (reply ≡ reply_of WrongStep text)
+-- a test of a theorem fails
+abbrev pub IsUnproved : Document → Placed → Reply → Type 0
+IsUnproved d t reply = first_theorem_refusal d.symbols d.entries t 0 0 d.entries ≡ Some reply
 
--- all items are built, and all ends meet
-abbrev pub IsSettled : Document → Reply → Type 0
-IsSettled d reply =
-    AreBuilt d.entries d.entries × AllMeet d.entries d.entries × (reply ≡ reply_of Accepted (accepted_text d))
+-- all theorems are proved by their scripts
+abbrev pub IsProvedReply : Document → Reply → Type 0
+IsProvedReply d reply = IsProvedDocument d × (reply ≡ reply_of Accepted (proved_text d))
 
--- the reply to a document that is read
-abbrev pub IsReplyToDocument : Document → Placed → Reply → Type 0
-IsReplyToDocument d t reply = IsNotBuilt d t reply ⊎ (IsWrong d reply ⊎ IsSettled d reply)
+-- what is accepted with a command
+abbrev pub IsAcceptable : Command → Document → Type 0
+IsAcceptable Check d = IsTypedDocument d × IsProvedDocument d
+IsAcceptable Types d = IsTypedDocument d
+
+-- what is written of it
+abbrev pub accepted_text : Command → Document → List ℕ
+accepted_text Check d = proved_text d
+accepted_text Types d = summary_text d
+
+-- the document is accepted
+abbrev pub IsSettled : Command → Document → Reply → Type 0
+IsSettled command d reply = IsAcceptable command d × (reply ≡ reply_of Accepted (accepted_text command d))
+
+-- The reply to a document that is read: the first test of an item that fails, or that of a theorem, or the accepted
+-- text. `types` does not look at scripts.
+abbrev pub IsReplyToDocument : Command → Document → Placed → Reply → Type 0
+IsReplyToDocument Check d t reply =
+    IsIll d reply ⊎ ((IsTypedDocument d × IsUnproved d t reply) ⊎ IsSettled Check d reply)
+IsReplyToDocument Types d t reply = IsIll d reply ⊎ IsSettled Types d reply
 
 -- the reply to a tree: the first fault of it, or what is said of the document that it spells
-abbrev pub IsReplyToTree : Placed → Reply → Type 0
-IsReplyToTree t reply = IsFaulty t reply ⊎ ((d : Document) × IsRead d t × IsReplyToDocument d t reply)
+abbrev pub IsReplyToTree : Command → Placed → Reply → Type 0
+IsReplyToTree command t reply =
+    IsFaulty t reply ⊎ ((d : Document) × IsRead d t × IsReplyToDocument command d t reply)
 
 -- the reply to bytes within the limit: the first refusal that applies, else the accepted text
-abbrev pub IsReplyWithin : List ℕ → Reply → Type 0
-IsReplyWithin bytes reply =
+abbrev pub IsReplyWithin : Command → List ℕ → Reply → Type 0
+IsReplyWithin command bytes reply =
     IsUnspelled bytes reply
-    ⊎ ((t : Placed) × (refusal bytes ≡ None) × SpellsSource t bytes × IsReplyToTree t reply)
+    ⊎ ((t : Placed) × (refusal bytes ≡ None) × SpellsSource t bytes × IsReplyToTree command t reply)
 
 -- the reply to all bytes of a source
-abbrev pub IsReplyToBytes : List ℕ → Reply → Type 0
-IsReplyToBytes bytes reply =
-    ((source_limit < length bytes) × (reply ≡ over_reply)) ⊎ ((length bytes ≤ source_limit) × IsReplyWithin bytes reply)
+abbrev pub IsReplyToBytes : Command → List ℕ → Reply → Type 0
+IsReplyToBytes command bytes reply =
+    ((source_limit < length bytes) × (reply ≡ over_reply))
+    ⊎ ((length bytes ≤ source_limit) × IsReplyWithin command bytes reply)
+
+-- the words are those of the command, and this is the reply to all bytes of a source
+abbrev pub IsReplyToCommand : List (List ℕ) → List ℕ → Reply → Type 0
+IsReplyToCommand words bytes reply =
+    (command : Command) × (words ≡ command_words command) × IsReplyToBytes command bytes reply
 
 -- the reply to words and all bytes of a source: the first refusal that applies, else the accepted text
 abbrev pub IsReply : List (List ℕ) → List ℕ → Reply → Type 0
-IsReply words bytes reply =
-    ((words ≢ check_words) × (reply ≡ usage_reply)) ⊎ ((words ≡ check_words) × IsReplyToBytes bytes reply)
+IsReply words bytes reply = (AreOfNoForm words × (reply ≡ usage_reply)) ⊎ IsReplyToCommand words bytes reply

@@ -5,12 +5,12 @@ use Rattle.ipdl_io.specs.Faults.{MayHaveRisen}
 use Rattle.ipdl_tree.specs.Spelling.{SpellsSource}
 use Rattle.ipdl_tree.specs.Trees.{Placed}
 use Rattle.ipdl_forms.specs.Documents.{Document}
+use Rattle.ipdl_top.specs.declared.command.Command.{Command}
 use Rattle.ipdl_top.specs.declared.status.Status.{Status}
 use Rattle.ipdl_top.specs.declared.status.Status.TheVariants.{Accepted, WrongStep, BadSource, Usage, ReadFault, WriteFault, Memory, OverLimit}
 use Rattle.ipdl_top.specs.Transfers.{Took, TookFront}
-use Rattle.ipdl_top.specs.Built.{AreBuilt}
-use Rattle.ipdl_top.specs.Chains.{AllMeet, accepted_text}
-use Rattle.ipdl_top.specs.Replies.{Reply, IsRead, IsReply}
+use Rattle.ipdl_top.specs.Replies.{IsRead, IsAcceptable, accepted_text, IsReply}
+use Rattle.ipdl_top.specs.Statuses.{Reply}
 
 -- a status that the words and the bytes decide
 abbrev pub IsVerdict : Status → Type 0
@@ -50,14 +50,9 @@ abbrev pub IsRepliedFront : List (List ℕ) → Option (List ℕ) → Option (Li
 IsRepliedFront words left taken taken' =
     (bytes : List ℕ) → left ≡ Some bytes → (reply : Reply) × IsReply words bytes reply × TookFront taken taken' reply.text
 
--- a document that is built, and all of whose ends meet
-pub record IsAcceptable (d : Document) : Type 0 where
-  pub built : AreBuilt d.entries d.entries
-  pub meeting : AllMeet d.entries d.entries
-
--- The source is at its end. The bytes that it told spell a tree of a document that is built and whose ends meet, and
--- the text of its chains was written.
-abbrev pub IsAcceptedDocument : (left left' taken taken' : Option (List ℕ)) → Type 0
-IsAcceptedDocument left left' taken taken' =
+-- The source is at its end. The bytes that it told spell a tree of a document that is accepted with the command, and
+-- its text was written.
+abbrev pub IsAcceptedDocument : Command → (left left' taken taken' : Option (List ℕ)) → Type 0
+IsAcceptedDocument command left left' taken taken' =
     IsAtEnd left' × ((bytes : List ℕ) → left ≡ Some bytes → (t : Placed) × (d : Document) × SpellsSource t bytes
-    × IsRead d t × IsAcceptable d × Took taken taken' (accepted_text d))
+    × IsRead d t × IsAcceptable command d × Took taken taken' (accepted_text command d))

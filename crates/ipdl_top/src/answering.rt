@@ -1,37 +1,30 @@
 // What is answered to the bytes of a source.
 
-ghost use Rattle.std.specs.Prelude.{◌≡◌, ◌≢◌, ◌≤◌, ◌⊎◌, ℕ, length, IfOk, OnOk};
+ghost use Rattle.std.specs.Prelude.{◌≡◌, ◌≢◌, ◌≤◌, ℕ, length, IfOk, OnOk};
 ghost use Rattle.ipdl_tree.specs.Faults.{fault_of};
 ghost use Rattle.ipdl_tree.specs.Refusals.{Cause};
-ghost use Rattle.ipdl_tree.specs.Trees.{place_of};
-ghost use Rattle.ipdl_tree.specs.Views.{placed, all_placed};
+ghost use Rattle.ipdl_tree.specs.Views.{placed};
 ghost use Rattle.ipdl_forms.specs.Documents.{document_of};
-ghost use Rattle.ipdl_forms.specs.Items.{SpellsDocument};
-ghost use Rattle.ipdl_forms.specs.Lists.{tree_at};
-ghost use Rattle.ipdl_top.specs.Lookups.{HasBodiesWithin};
-ghost use Rattle.ipdl_top.specs.Built.{item_place, AreBuilt};
+ghost use Rattle.ipdl_top.specs.Replies.{refusal_reply, document_fault_reply, IsRead, IsReplyToDocument, IsReplyWithin};
+ghost use Rattle.ipdl_top.specs.Statuses.{answered};
 ghost use Rattle.ipdl_top.specs.Transfers.{source_limit};
-ghost use Rattle.ipdl_top.specs.Replies.{reply_of, refusal_reply, document_fault_reply, IsWrong, IsSettled, IsReplyToDocument, IsReplyWithin};
+ghost use Rattle.ipdl_top.specs.Typed.{IsTypedDocument};
 
-use crate::building::first_not_built;
-use crate::refusing::{form_text, limit_text, not_built_text, spell_text};
+use crate::answer::Answer;
+use crate::command::Command;
+use crate::refusing::{form_text, limit_text, spell_text};
+use crate::scripts::answer_to_scripts;
 use crate::status::Status;
-use crate::writing::{accepted_text, first_wrong_line};
-use ipdl_base::{Limit, NoMemory, Pos};
+use crate::summaries::summary_text;
+use crate::typing::first_item_refusal;
+use ipdl_base::{Limit, NoMemory};
 use ipdl_forms::{DocFault, Document, read_document};
-use ipdl_tree::{Node, Tree, TreeFault, read_tree};
+use ipdl_tree::{Tree, TreeFault, read_tree};
 use std::alloc::Global;
-
-// A status, and the text that is to be written with it.
-#[derive(Debug, Drop)]
-pub(crate) struct Answer {
-    pub(crate) status: Status,
-    pub(crate) text: Vec<u8>,
-}
 
 // The answer to bytes that spell no tree.
 fn answer_to_tree_fault(alloc: Global, fault: TreeFault) -> Result<Answer, NoMemory>
-    ensures reply { IfOk result (λ a. (offset : ℕ) (cause : Cause) → fault_of (offset, cause) ≡ fault → reply_of a.status a.text.items ≡ refusal_reply offset cause) }
+    ensures reply { IfOk result (λ a. (offset : ℕ) (cause : Cause) → fault_of (offset, cause) ≡ fault → answered a ≡ refusal_reply offset cause) }
     ensures memory { OnOk result (fault ≢ TreeFault.Memory) }
 {
     match fault {
@@ -49,7 +42,7 @@ fn answer_to_tree_fault(alloc: Global, fault: TreeFault) -> Result<Answer, NoMem
 
 // The answer to a tree that spells no document within the limits.
 fn answer_to_document_fault(alloc: Global, fault: DocFault) -> Result<Answer, NoMemory>
-    ensures reply { IfOk result (λ a. reply_of a.status a.text.items ≡ document_fault_reply fault) }
+    ensures reply { IfOk result (λ a. answered a ≡ document_fault_reply fault) }
     ensures memory { OnOk result (fault ≢ DocFault.Memory) }
 {
     match fault {
@@ -65,72 +58,53 @@ fn answer_to_document_fault(alloc: Global, fault: DocFault) -> Result<Answer, No
     }
 }
 
-// Where the tree at this place among some begins.
-fn place_at(trees: &[Tree], place: usize) -> Pos
-    ensures { result.0 ≡ place_of (tree_at place (all_placed trees.now)) }
+// The answer to a document whose items are well typed.
+fn answer_to_typed(
+    alloc: Global,
+    command: Command,
+    tree: &Tree,
+    document: &Document,
+) -> Result<Answer, NoMemory>
+    requires typed { IsTypedDocument (document_of document.now) }
+    requires read { IsRead (document_of document.now) (placed tree.now) }
+    ensures { IfOk result (λ a. IsReplyToDocument command (document_of document.now) (placed tree.now) (answered a)) }
 {
-    match trees.get(place) {
-        Some(tree) => tree.pos,
-        None => Pos(0),
-    }
-}
-
-// Where the item of this number begins.
-fn item_place(tree: &Tree, number: usize) -> Pos
-    ensures { result.0 ≡ item_place (placed tree.now) number }
-{
-    match &tree.node {
-        Node::Group(parts) => match parts.as_slice() {
-            [_, _, items @ ..] => place_at(items, number),
-            _ => Pos(0),
-        },
-        _ => Pos(0),
-    }
-}
-
-// The answer to a document whose items are built.
-fn answer_to_built(alloc: Global, document: &Document) -> Result<Answer, NoMemory>
-    requires built { AreBuilt (document_of document.now).entries (document_of document.now).entries }
-    requires within { HasBodiesWithin (length document.now.sig) (document_of document.now).entries }
-    ensures { IfOk result (λ a. IsWrong (document_of document.now) (reply_of a.status a.text.items) ⊎ IsSettled (document_of document.now) (reply_of a.status a.text.items)) }
-{
-    match first_wrong_line(alloc, document)? {
-        Some(text) => Ok(Answer {
-            status: Status::WrongStep,
-            text: text.into_vec(),
-        }),
-        None => Ok(Answer {
+    match command {
+        Command::Check => answer_to_scripts(alloc, tree, document),
+        Command::Types => Ok(Answer {
             status: Status::Accepted,
-            text: accepted_text(alloc, document)?,
+            text: summary_text(alloc, document)?,
         }),
     }
 }
 
 // The answer to a document.
-fn answer_to_document(alloc: Global, tree: &Tree, document: &Document) -> Result<Answer, NoMemory>
-    requires { SpellsDocument (document_of document.now) (placed tree.now) }
-    ensures { IfOk result (λ a. IsReplyToDocument (document_of document.now) (placed tree.now) (reply_of a.status a.text.items)) }
+fn answer_to_document(
+    alloc: Global,
+    command: Command,
+    tree: &Tree,
+    document: &Document,
+) -> Result<Answer, NoMemory>
+    requires { IsRead (document_of document.now) (placed tree.now) }
+    ensures { IfOk result (λ a. IsReplyToDocument command (document_of document.now) (placed tree.now) (answered a)) }
 {
-    match first_not_built(document) {
-        Some(number) => Ok(Answer {
-            status: Status::BadSource,
-            text: not_built_text(alloc, item_place(tree, number))?,
-        }),
-        None => answer_to_built(alloc, document),
+    match first_item_refusal(alloc, document)? {
+        Some(answer) => Ok(answer),
+        None => answer_to_typed(alloc, command, tree, document),
     }
 }
 
 // The answer to all bytes of a source, which are within the limit.
-pub(crate) fn answer_to(alloc: Global, bytes: &[u8]) -> Result<Answer, NoMemory>
+pub(crate) fn answer_to(alloc: Global, command: Command, bytes: &[u8]) -> Result<Answer, NoMemory>
     requires { length bytes.now ≤ source_limit }
-    ensures { IfOk result (λ a. IsReplyWithin bytes.now (reply_of a.status a.text.items)) }
+    ensures { IfOk result (λ a. IsReplyWithin command bytes.now (answered a)) }
 {
     let tree = match read_tree(alloc, bytes) {
         Ok(tree) => tree,
         Err(fault) => return answer_to_tree_fault(alloc, fault),
     };
     match read_document(alloc, &tree) {
-        Ok(document) => answer_to_document(alloc, &tree, &document),
+        Ok(document) => answer_to_document(alloc, command, &tree, &document),
         Err(fault) => answer_to_document_fault(alloc, fault),
     }
 }

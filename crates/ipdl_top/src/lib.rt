@@ -2,17 +2,21 @@
 //! source to a status and the bytes that a sink takes.
 #![tactic(auto)]
 
+mod answer;
 mod answering;
-mod building;
+mod command;
 mod comparing;
 mod finding;
 mod laws;
 mod refusing;
 mod runner;
+mod scripts;
 mod status;
+mod summaries;
 #[cfg(test)]
 mod tests;
 mod transfer;
+mod typing;
 mod writing;
 
 pub use laws::{

@@ -1,9 +1,10 @@
 // The lines that say where and why a source is refused.
 
-ghost use Rattle.std.specs.Prelude.{◌≡◌, IfOk, codes};
-ghost use Rattle.ipdl_top.specs.Lines.{spell_cause_name, form_cause_name, limit_name, spell_line, form_line, limit_line};
+ghost use Rattle.std.specs.Prelude.{◌≡◌, [], ◌∷◌, IfOk, codes};
+ghost use Rattle.ipdl_top.specs.Lines.{spell_cause_name, form_cause_name, limit_name, spell_line, form_line, limit_line, limit_at_line};
+ghost use Rattle.ipdl_top.specs.Scripts.{no_match_reply};
 
-use ipdl_base::{Limit, NoMemory, Pos};
+use ipdl_base::{Limit, Name, NoMemory, Pos};
 use ipdl_forms::FormCause;
 use ipdl_tree::SpellCause;
 use std::alloc::Global;
@@ -70,7 +71,7 @@ pub(crate) fn form_text(alloc: Global, pos: Pos, cause: FormCause) -> Result<Vec
     Ok(text.into_bytes())
 }
 
-// The line of an item that is not built.
+// The line of a theorem whose script is not of the form that is followed.
 pub(crate) fn not_built_text(alloc: Global, pos: Pos) -> Result<Vec<u8>, NoMemory>
     ensures { IfOk result (λ text. text.items ≡ form_line pos.0 (codes "NotBuilt")) }
 {
@@ -89,5 +90,63 @@ pub(crate) fn limit_text(alloc: Global, limit: Limit, pos: Pos) -> Result<Vec<u8
     let number = limit.number();
     let offset = pos.0;
     writeln!(text, "limit {name} {number} at byte {offset}")?;
+    Ok(text.into_bytes())
+}
+
+// The line of an item that passes this number.
+pub(crate) fn limit_at_item(
+    alloc: Global,
+    limit: Limit,
+    number: u64,
+    item: &Name,
+) -> Result<Vec<u8>, NoMemory>
+    ensures { IfOk result (λ text. text.items ≡ limit_at_line limit number (codes "item" ∷ item.now ∷ [])) }
+{
+    let mut text = String::new(alloc);
+    let name = limit_name(limit);
+    let item = item.text();
+    writeln!(text, "limit {name} {number} at item {item}")?;
+    Ok(text.into_bytes())
+}
+
+// The line of a theorem that passes this number.
+pub(crate) fn limit_at_theorem(
+    alloc: Global,
+    limit: Limit,
+    number: u64,
+    theorem: &Name,
+) -> Result<Vec<u8>, NoMemory>
+    ensures { IfOk result (λ text. text.items ≡ limit_at_line limit number (codes "theorem" ∷ theorem.now ∷ [])) }
+{
+    let mut text = String::new(alloc);
+    let name = limit_name(limit);
+    let theorem = theorem.text();
+    writeln!(text, "limit {name} {number} at theorem {theorem}")?;
+    Ok(text.into_bytes())
+}
+
+// The line of a theorem whose first step gives what passes this number.
+pub(crate) fn limit_at_step(
+    alloc: Global,
+    limit: Limit,
+    number: u64,
+    theorem: &Name,
+) -> Result<Vec<u8>, NoMemory>
+    ensures { IfOk result (λ text. text.items ≡ limit_at_line limit number (codes "theorem" ∷ theorem.now ∷ codes "left 1" ∷ [])) }
+{
+    let mut text = String::new(alloc);
+    let name = limit_name(limit);
+    let theorem = theorem.text();
+    writeln!(text, "limit {name} {number} at theorem {theorem} left 1")?;
+    Ok(text.into_bytes())
+}
+
+// The line of a theorem whose first step does not match.
+pub(crate) fn no_match_text(alloc: Global, theorem: &Name) -> Result<Vec<u8>, NoMemory>
+    ensures { IfOk result (λ text. text.items ≡ (no_match_reply theorem.now).text) }
+{
+    let mut text = String::new(alloc);
+    let theorem = theorem.text();
+    writeln!(text, "wrong {theorem} left 1 comm NoMatch")?;
     Ok(text.into_bytes())
 }

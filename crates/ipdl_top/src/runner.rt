@@ -1,31 +1,25 @@
-ghost use Rattle.std.specs.Prelude.{◌≡◌, ◌≢◌, ◌≤◌, ◌↔◌, ◌⊎◌, IsTrue, Some, List, ℕ, length, map, string_bytes};
+ghost use Rattle.std.specs.Prelude.{◌≡◌, ◌≢◌, ◌≤◌, ◌⊎◌, Some, List, ℕ, length, map, string_bytes};
 ghost use Rattle.std.specs.Io.KnownBytes.{IsAtEnd};
 ghost use Rattle.ipdl_io.specs.Faults.{MayHaveRisen, HasRisen, DidNotRise};
 ghost use Rattle.ipdl_tree.specs.Spelling.{SpellsSource};
 ghost use Rattle.ipdl_tree.specs.Trees.{Placed};
 ghost use Rattle.ipdl_forms.specs.Documents.{Document};
-ghost use Rattle.ipdl_top.specs.Words.{check_words};
-ghost use Rattle.ipdl_top.specs.Chains.{accepted_text};
-ghost use Rattle.ipdl_top.specs.Transfers.{source_limit, GaveSome, GaveTooMany, Took, TookFront};
+ghost use Rattle.ipdl_top.specs.Chains.{proved_text};
 ghost use Rattle.ipdl_top.specs.Replies.{usage_reply, fault_reply, IsRead};
-ghost use Rattle.ipdl_top.specs.Runs.{IsVerdict, IsOfWholeSource, IsFinished, IsReplied, IsRepliedFront, IsAcceptable, IsAcceptedDocument};
+ghost use Rattle.ipdl_top.specs.Runs.{IsVerdict, IsOfWholeSource, IsFinished, IsReplied, IsRepliedFront, IsAcceptedDocument};
+ghost use Rattle.ipdl_top.specs.Scripts.{IsProvedDocument};
+ghost use Rattle.ipdl_top.specs.Summaries.{summary_text};
+ghost use Rattle.ipdl_top.specs.Transfers.{source_limit, GaveSome, GaveTooMany, Took, TookFront};
+ghost use Rattle.ipdl_top.specs.Typed.{IsTypedDocument};
+ghost use Rattle.ipdl_top.specs.Words.{command_words, AreOfNoForm};
 
 use crate::answering::answer_to;
+use crate::command::{Command, command_of};
 use crate::status::Status;
 use crate::transfer::{ReadStop, read_all, write_all};
 use ipdl_base::NoMemory;
 use ipdl_io::{Sink, Source};
 use std::alloc::Global;
-
-// Whether the words are the one word `check`.
-fn is_check(words: &[String]) -> bool
-    ensures { IsTrue result ↔ (map string_bytes words.now ≡ check_words) }
-{
-    match words {
-        [word] => word.as_str() == "check",
-        _ => false,
-    }
-}
 
 // Writes the text, and gives the planned status, or that of a write that failed.
 fn finish<K: Sink>(planned: Status, text: &[u8], sink: &mut K) -> Status
@@ -40,8 +34,8 @@ fn finish<K: Sink>(planned: Status, text: &[u8], sink: &mut K) -> Status
 
 /// Reads the source to its end, and writes the reply to the words and to its bytes.
 ///
-/// The words are those after the program's name. Only the one word `check` is a form of words;
-/// at any other words nothing is read. The reply is formed whole before the first byte of it is
+/// The words are those after the program's name. The one word `check` and the one word `types` are
+/// forms of words; at any other words nothing is read. The reply is formed whole before the first byte of it is
 /// written. A source that fails is answered with the line `fault read`.
 pub fn run<S: Source, K: Sink>(
     alloc: Global,
@@ -55,24 +49,34 @@ pub fn run<S: Source, K: Sink>(
 
     // No status that words and bytes decide is answered without its cause.
     ensures verdict { IsVerdict result → IsReplied (map string_bytes words.now) result (S.left source.old) (K.taken sink.old) (K.taken sink.new) }
-    ensures usage_cause { result ≡ Status.Usage → map string_bytes words.now ≢ check_words }
+    ensures usage_cause { result ≡ Status.Usage → AreOfNoForm (map string_bytes words.now) }
     ensures over_cause { result ≡ Status.OverLimit → GaveTooMany (S.left source.old) (S.left source.new) ⊎ IsAtEnd (S.left source.new) }
     ensures read_cause { result ≡ Status.ReadFault → MayHaveRisen (S.faults source.old) (S.faults source.new) }
     ensures write_cause { result ≡ Status.WriteFault → MayHaveRisen (K.faults sink.old) (K.faults sink.new) }
 
-    // What is accepted is a document that is built and whose ends meet, and each such document is accepted.
-    ensures accepted { result ≡ Status.Accepted → IsAcceptedDocument (S.left source.old) (S.left source.new) (K.taken sink.old) (K.taken sink.new) }
-    ensures complete { (bytes : List ℕ) (t : Placed) (d : Document) → SpellsSource t bytes → IsRead d t → IsAcceptable d → length bytes ≤ source_limit →
-        map string_bytes words.now ≡ check_words → S.left source.old ≡ Some bytes →
+    // What `check` accepts is a document whose items are well typed and whose scripts prove their
+    // theorems, and each such document is accepted.
+    ensures accepted { map string_bytes words.now ≡ command_words Command.Check → result ≡ Status.Accepted →
+        IsAcceptedDocument Command.Check (S.left source.old) (S.left source.new) (K.taken sink.old) (K.taken sink.new) }
+    ensures complete { (bytes : List ℕ) (t : Placed) (d : Document) → SpellsSource t bytes → IsRead d t → IsTypedDocument d → IsProvedDocument d →
+        length bytes ≤ source_limit → map string_bytes words.now ≡ command_words Command.Check → S.left source.old ≡ Some bytes →
         DidNotRise (S.faults source.old) (S.faults source.new) → DidNotRise (K.faults sink.old) (K.faults sink.new) →
-        result ≢ Status.Memory → (result ≡ Status.Accepted) × Took (K.taken sink.old) (K.taken sink.new) (accepted_text d) }
+        result ≢ Status.Memory → (result ≡ Status.Accepted) × Took (K.taken sink.old) (K.taken sink.new) (proved_text d) }
+
+    // What `types` accepts is a document whose items are well typed, and each such document is accepted.
+    ensures typed { map string_bytes words.now ≡ command_words Command.Types → result ≡ Status.Accepted →
+        IsAcceptedDocument Command.Types (S.left source.old) (S.left source.new) (K.taken sink.old) (K.taken sink.new) }
+    ensures typed_complete { (bytes : List ℕ) (t : Placed) (d : Document) → SpellsSource t bytes → IsRead d t → IsTypedDocument d →
+        length bytes ≤ source_limit → map string_bytes words.now ≡ command_words Command.Types → S.left source.old ≡ Some bytes →
+        DidNotRise (S.faults source.old) (S.faults source.new) → DidNotRise (K.faults sink.old) (K.faults sink.new) →
+        result ≢ Status.Memory → (result ≡ Status.Accepted) × Took (K.taken sink.old) (K.taken sink.new) (summary_text d) }
 
     // At words of no form nothing is read, and memory is not wanted.
-    ensures unread { map string_bytes words.now ≢ check_words → S.left source.new ≡ S.left source.old }
-    ensures unread_faults { map string_bytes words.now ≢ check_words → S.faults source.new ≡ S.faults source.old }
-    ensures no_memory { map string_bytes words.now ≢ check_words → result ≢ Status.Memory }
-    ensures usage { map string_bytes words.now ≢ check_words → DidNotRise (K.faults sink.old) (K.faults sink.new) → result ≡ Status.Usage }
-    ensures usage_text { map string_bytes words.now ≢ check_words → DidNotRise (K.faults sink.old) (K.faults sink.new) →
+    ensures unread { AreOfNoForm (map string_bytes words.now) → S.left source.new ≡ S.left source.old }
+    ensures unread_faults { AreOfNoForm (map string_bytes words.now) → S.faults source.new ≡ S.faults source.old }
+    ensures no_memory { AreOfNoForm (map string_bytes words.now) → result ≢ Status.Memory }
+    ensures usage { AreOfNoForm (map string_bytes words.now) → DidNotRise (K.faults sink.old) (K.faults sink.new) → result ≡ Status.Usage }
+    ensures usage_text { AreOfNoForm (map string_bytes words.now) → DidNotRise (K.faults sink.old) (K.faults sink.new) →
         Took (K.taken sink.old) (K.taken sink.new) usage_reply.text }
 
     // What follows from a fault.
@@ -93,9 +97,9 @@ pub fn run<S: Source, K: Sink>(
     ensures gave { GaveSome (S.left source.old) (S.left source.new) }
     ensures took { (text : List ℕ) × TookFront (K.taken sink.old) (K.taken sink.new) text }
 {
-    if !is_check(words) {
+    let Some(command) = command_of(words) else {
         return finish(Status::Usage, b"usage\n", sink);
-    }
+    };
     let bytes = match read_all(alloc, source) {
         Ok(bytes) => bytes,
         Err(ReadStop::Fault) => return finish(Status::ReadFault, b"fault read\n", sink),
@@ -108,7 +112,7 @@ pub fn run<S: Source, K: Sink>(
         }
         Err(ReadStop::Memory) => return Status::Memory,
     };
-    match answer_to(alloc, bytes.as_slice()) {
+    match answer_to(alloc, command, bytes.as_slice()) {
         Ok(answer) => finish(answer.status, answer.text.as_slice(), sink),
         Err(NoMemory) => Status::Memory,
     }

@@ -1,5 +1,5 @@
 ghost use Rattle.std.specs.Prelude.{◌≡◌};
-ghost use Rattle.ipdl_top.specs.Replies.{status_number};
+ghost use Rattle.ipdl_top.specs.Statuses.{status_number};
 
 /// How a run ended.
 #[derive(Clone, Copy, Debug, PartialEq, Eq)]
@@ -8,7 +8,8 @@ pub enum Status {
     Accepted,
     /// A step is none, or two ends differ.
     WrongStep,
-    /// The source is no document that is built.
+    /// The source is no document, or an item is ill typed, or a script is not of the form that is
+    /// followed.
     BadSource,
     /// The words are none of the forms.
     Usage,

@@ -18,7 +18,4 @@ pub use fault::{SpellCause, TreeFault};
 pub use laws::{one_tree, refused_where_no_tree, written_is_read};
 pub use read::read_tree;
 pub use tree::{Node, Tree};
-pub use write::write_tree;
-
-#[cfg(test)]
-mod tests;
+pub use write::{push_literal, push_number, write_tree};

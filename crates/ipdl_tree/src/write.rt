@@ -31,7 +31,7 @@ fn push_tree(alloc: Global, text: &mut Vec<u8>, tree: &Tree) -> Result<(), NoMem
             text.extend_from_slice(name.text().as_bytes())?;
             Ok(())
         }
-        Node::Number(value) => push_number(alloc, text, *value),
+        Node::Number(value) => push_number(alloc, text, u64::from(*value)),
         Node::Literal(bits) => push_literal(text, *bits),
         Node::Group(parts) => push_group(alloc, text, parts),
     }
@@ -62,7 +62,9 @@ fn push_blank_before(text: &mut Vec<u8>, place: usize) -> Result<(), NoMemory>
     Ok(())
 }
 
-fn push_number(alloc: Global, text: &mut Vec<u8>, value: u32) -> Result<(), NoMemory>
+/// Pushes the spelling of a number: its decimal digits. Where memory runs out, a part of them may
+/// have been pushed.
+pub fn push_number(alloc: Global, text: &mut Vec<u8>, value: u64) -> Result<(), NoMemory>
     ensures { OnOk result (text.new.items ≡ text.old.items ++ decimal value) }
 {
     let digits = value.to_string(alloc)?;
@@ -81,7 +83,9 @@ fn digit_at(bits: Bits, place: u8) -> u8
     }
 }
 
-fn push_literal(text: &mut Vec<u8>, bits: Bits) -> Result<(), NoMemory>
+/// Pushes the spelling of a literal: `#` and a digit for each bit. Where memory runs out, a part of
+/// it may have been pushed.
+pub fn push_literal(text: &mut Vec<u8>, bits: Bits) -> Result<(), NoMemory>
     ensures text { OnOk result (text.new.items ≡ text.old.items ++ (codes "#" ++ map bit_digit bits)) }
     ensures within { length bits ≤ 128 }
 {

@@ -10,8 +10,6 @@ mod place;
 mod protocols;
 mod reactions;
 mod sides;
-#[cfg(test)]
-mod tests;
 mod visible;
 
 pub use expressions::check_expr;

@@ -1,40 +1,21 @@
 //! Interfaces of protocols, in reading order.
 
-ghost use Rattle.std.specs.Prelude.{◌≡◌, ◌++◌, [], false, Some, IfOk, OnOk, IfErr};
+ghost use Rattle.std.specs.Prelude.{◌≡◌, ◌++◌, [], false, IfOk, OnOk, IfErr};
 ghost use Rattle.ipdl_tree.specs.Trees.{group};
 ghost use Rattle.ipdl_tree.specs.Views.{placed, all_placed};
 ghost use Rattle.ipdl_forms.specs.Faults.{TellsFirst};
 ghost use Rattle.ipdl_forms.specs.Items.{ArePorts, SpellsInterface, first_names, interface_port_faults, all_port_faults, interface_faults};
-ghost use Rattle.ipdl_forms.specs.Lists.{is_among, head_of, word_in, operands};
-ghost use Rattle.ipdl_forms.specs.Steps.{headed_faults, new_name_faults};
+ghost use Rattle.ipdl_forms.specs.Lists.{is_among};
 ghost use Rattle.ipdl_forms.specs.Widths.{SpellsPort};
 
-use crate::fault::{DocFault, FormCause};
-use crate::reading::words::{not_a_form, read_width};
+use crate::fault::DocFault;
+use crate::reading::paths::parts_after;
+use crate::reading::words::{not_a_form, read_new_name, read_width};
 use crate::seen::Seen;
-use ipdl_base::{List, Name, Pos};
+use ipdl_base::{List, Pos};
 use ipdl_term::{Interface, Port};
 use ipdl_tree::{Node, Tree};
 use std::alloc::Global;
-
-// The name of a port, which no port before has.
-fn read_port_name(tree: &Tree, alloc: Global, seen: &Seen) -> Result<Name, DocFault>
-    ensures word { IfOk result (λ name. word_in (placed tree.now) ≡ Some name) }
-    ensures new { IfOk result (λ name. is_among seen.now name ≡ false) }
-    ensures clean { OnOk result (new_name_faults seen.now (placed tree.now) ≡ []) }
-    ensures first { IfErr result (λ fault. TellsFirst fault (new_name_faults seen.now (placed tree.now))) }
-{
-    let Node::Word(name) = &tree.node else {
-        return Err(not_a_form(tree.pos));
-    };
-    if seen.has(name) {
-        return Err(DocFault::Form {
-            pos: tree.pos,
-            cause: FormCause::Repeated,
-        });
-    }
-    Ok(name.copy(alloc)?)
-}
 
 // The port that the parts of a list tell, of which no port before has the name.
 #[tactic(auto, using(crate::proofs::Lists::tree_count_placed))]
@@ -48,7 +29,7 @@ fn read_port_parts(parts: &[Tree], alloc: Global, seen: &Seen, list: Pos) -> Res
     let [name, width] = parts else {
         return Err(not_a_form(list));
     };
-    let name = read_port_name(name, alloc, seen)?;
+    let name = read_new_name(name, alloc, seen)?;
     let width = read_width(width)?;
     Ok(Port { name, width })
 }
@@ -82,28 +63,6 @@ fn read_ports(trees: &[Tree], alloc: Global, seen: &mut Seen) -> Result<List<Por
     Ok(ports)
 }
 
-// The trees after the word in front of a list.
-fn ports_after<'a>(tree: &'a Tree, word: &str) -> Result<&'a [Tree], DocFault>
-    ensures head { OnOk result (head_of (placed tree.now) ≡ Some word.now) }
-    ensures ports { IfOk result (λ trees. operands (placed tree.now) ≡ all_placed trees.now) }
-    ensures clean { OnOk result (headed_faults word.now (placed tree.now) ≡ []) }
-    ensures first { IfErr result (λ fault. TellsFirst fault (headed_faults word.now (placed tree.now))) }
-{
-    let Node::Group(parts) = &tree.node else {
-        return Err(not_a_form(tree.pos));
-    };
-    let [head, trees @ ..] = parts.as_slice() else {
-        return Err(not_a_form(tree.pos));
-    };
-    let Node::Word(name) = &head.node else {
-        return Err(not_a_form(tree.pos));
-    };
-    if name.text() != word {
-        return Err(not_a_form(tree.pos));
-    }
-    Ok(trees)
-}
-
 // The interface that the two lists tell.
 pub(crate) fn read_interface(
     inputs: &Tree,
@@ -115,7 +74,7 @@ pub(crate) fn read_interface(
     ensures first { IfErr result (λ fault. TellsFirst fault (interface_faults (placed inputs.now) (placed outputs.now))) }
 {
     let mut seen = Seen::empty(alloc);
-    let inputs = read_ports(ports_after(inputs, "inputs")?, alloc, &mut seen)?;
-    let outputs = read_ports(ports_after(outputs, "outputs")?, alloc, &mut seen)?;
+    let inputs = read_ports(parts_after(inputs, "inputs")?, alloc, &mut seen)?;
+    let outputs = read_ports(parts_after(outputs, "outputs")?, alloc, &mut seen)?;
     Ok(Interface { inputs, outputs })
 }

@@ -6,7 +6,7 @@ ghost use Rattle.ipdl_tree.specs.Views.{placed, all_placed};
 ghost use Rattle.ipdl_forms.specs.declared.fault.FormCause.TheVariants.{NotAForm};
 ghost use Rattle.ipdl_forms.specs.Faults.{TellsFirst, form_fault};
 ghost use Rattle.ipdl_forms.specs.Lists.{number_in, is_list, parts_of, head_of, operands};
-ghost use Rattle.ipdl_forms.specs.Steps.{SpellsPath, number_faults, list_faults, path_faults};
+ghost use Rattle.ipdl_forms.specs.Steps.{SpellsPath, number_faults, list_faults, headed_faults, path_faults};
 
 use crate::fault::DocFault;
 use crate::reading::words::not_a_form;
@@ -58,6 +58,20 @@ pub(crate) fn headed_list(tree: &Tree) -> Result<(&Name, &[Tree]), DocFault>
         Node::Word(name) => Ok((name, operands)),
         Node::Number(_) | Node::Literal(_) | Node::Group(_) => Err(not_a_form(tree.pos)),
     }
+}
+
+// The parts after the word that the list begins with.
+pub(crate) fn parts_after<'a>(tree: &'a Tree, word: &str) -> Result<&'a [Tree], DocFault>
+    ensures head { OnOk result (head_of (placed tree.now) ≡ Some word.now) }
+    ensures operands { IfOk result (λ parts. operands (placed tree.now) ≡ all_placed parts.now) }
+    ensures clean { OnOk result (headed_faults word.now (placed tree.now) ≡ []) }
+    ensures first { IfErr result (λ fault. TellsFirst fault (headed_faults word.now (placed tree.now))) }
+{
+    let (head, parts) = headed_list(tree)?;
+    if head.text() != word {
+        return Err(not_a_form(tree.pos));
+    }
+    Ok(parts)
 }
 
 // The path that the tree spells.

@@ -11,13 +11,13 @@ ghost use Rattle.ipdl_forms.specs.Faults.{TellsFirst};
 ghost use Rattle.ipdl_forms.specs.Lists.{tree_count, head_of, operands};
 ghost use Rattle.ipdl_forms.specs.Rules.{SpellsReversed, reverse_faults};
 ghost use Rattle.ipdl_forms.specs.Scopes.{Scope as Names, scope_of};
-ghost use Rattle.ipdl_forms.specs.Steps.{AreMoves, SpellsMove, SpellsSide, SpellsTerm, is_reaction_rule, is_reversible, reversed_faults, term_faults, headed_step_faults, step_faults, all_step_faults, headed_faults, side_faults};
+ghost use Rattle.ipdl_forms.specs.Steps.{AreMoves, SpellsMove, SpellsSide, SpellsTerm, is_reaction_rule, is_reversible, reversed_faults, term_faults, headed_step_faults, step_faults, all_step_faults, side_faults};
 
 use crate::binders::Binders;
 use crate::counting::Nodes;
 use crate::earlier::Earlier;
 use crate::fault::DocFault;
-use crate::reading::paths::headed_list;
+use crate::reading::paths::{headed_list, parts_after};
 use crate::reading::protocols::read_proto;
 use crate::reading::reactions::read_react;
 use crate::reading::rules::read_rule;
@@ -170,20 +170,6 @@ fn read_steps(
     Ok(steps)
 }
 
-// The parts of the list that begins with the word.
-fn side_parts<'a>(tree: &'a Tree, side: &str) -> Result<&'a [Tree], DocFault>
-    ensures head { OnOk result (head_of (placed tree.now) ≡ Some side.now) }
-    ensures operands { IfOk result (λ parts. operands (placed tree.now) ≡ all_placed parts.now) }
-    ensures clean { OnOk result (headed_faults side.now (placed tree.now) ≡ []) }
-    ensures first { IfErr result (λ fault. TellsFirst fault (headed_faults side.now (placed tree.now))) }
-{
-    let (word, parts) = headed_list(tree)?;
-    if word.text() != side {
-        return Err(not_a_form(tree.pos));
-    }
-    Ok(parts)
-}
-
 // The steps of the side of a theorem whose list begins with the word, so many steps of the theorem
 // being read before.
 pub(crate) fn read_side(
@@ -202,6 +188,6 @@ pub(crate) fn read_side(
     ensures first { IfErr result (λ fault. TellsFirst fault
         (side_faults (earlier_of earlier.now) side.now before (placed tree.now))) }
 {
-    let parts = side_parts(tree, side)?;
+    let parts = parts_after(tree, side)?;
     read_steps(parts, alloc, earlier, before)
 }

@@ -7,13 +7,13 @@ ghost use Rattle.ipdl_forms.specs.Earlier.{earlier_of, statement_names};
 ghost use Rattle.ipdl_forms.specs.Faults.{TellsFirst};
 ghost use Rattle.ipdl_forms.specs.Lists.{tree_count, tree_at, word_in, is_among};
 ghost use Rattle.ipdl_forms.specs.Uses.{use_faults, two_name_faults, SpellsUse, SpellsPair};
-ghost use Rattle.ipdl_forms.specs.Steps.{ArePairs, dir_word, dir_faults, declared_faults, new_name_faults, pair_faults, all_pair_faults};
+ghost use Rattle.ipdl_forms.specs.Steps.{ArePairs, dir_word, dir_faults, declared_faults, pair_faults, all_pair_faults};
 
 use crate::document::Item;
 use crate::earlier::{Earlier, has_statement};
 use crate::fault::{DocFault, FormCause};
 use crate::reading::paths::{list_parts, read_path};
-use crate::reading::words::{not_a_form, read_name, word_of};
+use crate::reading::words::{not_a_form, read_name, read_new_name, word_of};
 use crate::seen::Seen;
 use ipdl_base::{List, Name, Pos};
 use ipdl_term::{Dir, Step};
@@ -51,23 +51,6 @@ fn read_dir(tree: &Tree) -> Result<Dir, DocFault>
         "rl" => Ok(Dir::Rl),
         _ => Err(not_a_form(tree.pos)),
     }
-}
-
-// A name that is not among those that were seen.
-fn read_new_name(tree: &Tree, alloc: Global, seen: &Seen) -> Result<Name, DocFault>
-    ensures word { IfOk result (λ name. word_in (placed tree.now) ≡ Some name) }
-    ensures new { IfOk result (λ name. is_among seen.now name ≡ false) }
-    ensures clean { OnOk result (new_name_faults seen.now (placed tree.now) ≡ []) }
-    ensures first { IfErr result (λ fault. TellsFirst fault (new_name_faults seen.now (placed tree.now))) }
-{
-    let name = word_of(tree)?;
-    if seen.has(name) {
-        return Err(DocFault::Form {
-            pos: tree.pos,
-            cause: FormCause::Repeated,
-        });
-    }
-    Ok(name.copy(alloc)?)
 }
 
 // The pair of two parts of a list, whose first name was not seen.

@@ -1,13 +1,15 @@
 //! Tokens, and why a tree is refused.
 
-ghost use Rattle.std.specs.Prelude.{◌≡◌, ◌≤◌, [], Some, IfOk, OnOk, IfErr};
+ghost use Rattle.std.specs.Prelude.{◌≡◌, ◌≤◌, [], false, Some, IfOk, OnOk, IfErr};
 ghost use Rattle.ipdl_tree.specs.Views.{placed};
 ghost use Rattle.ipdl_forms.specs.declared.fault.FormCause.TheVariants.{NotAForm};
 ghost use Rattle.ipdl_forms.specs.Faults.{TellsFirst, form_fault, word_faults};
-ghost use Rattle.ipdl_forms.specs.Lists.{word_in, number_in};
+ghost use Rattle.ipdl_forms.specs.Lists.{is_among, word_in, number_in};
+ghost use Rattle.ipdl_forms.specs.Steps.{new_name_faults};
 ghost use Rattle.ipdl_forms.specs.Widths.{SpellsWidth, width_faults, greatest_width};
 
 use crate::fault::{DocFault, FormCause};
+use crate::seen::Seen;
 use ipdl_base::{Name, Pos};
 use ipdl_tree::{Node, Tree};
 use std::alloc::Global;
@@ -44,6 +46,23 @@ pub(crate) fn read_name(tree: &Tree, alloc: Global) -> Result<Name, DocFault>
     ensures first { IfErr result (λ fault. TellsFirst fault (word_faults (placed tree.now))) }
 {
     let name = word_of(tree)?;
+    Ok(name.copy(alloc)?)
+}
+
+// A name that is not among those that were seen.
+pub(crate) fn read_new_name(tree: &Tree, alloc: Global, seen: &Seen) -> Result<Name, DocFault>
+    ensures word { IfOk result (λ name. word_in (placed tree.now) ≡ Some name) }
+    ensures new { IfOk result (λ name. is_among seen.now name ≡ false) }
+    ensures clean { OnOk result (new_name_faults seen.now (placed tree.now) ≡ []) }
+    ensures first { IfErr result (λ fault. TellsFirst fault (new_name_faults seen.now (placed tree.now))) }
+{
+    let name = word_of(tree)?;
+    if seen.has(name) {
+        return Err(DocFault::Form {
+            pos: tree.pos,
+            cause: FormCause::Repeated,
+        });
+    }
     Ok(name.copy(alloc)?)
 }
 

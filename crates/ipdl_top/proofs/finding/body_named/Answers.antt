@@ -8,7 +8,7 @@ use Rattle.ipdl_top.proofs.finding.body_named.Goals as goal
 pub returns-in-Some : goal.returns-in-Some
 returns-in-Some c =
     subst (λ (body : Protocol). IfOk c.copy_proto.result (λ p. protocol_of p ≡ body))
-    (ap (λ (n : Network). n.body) (sym (network_named-found _ _ _ _ _ c.as_slice.ensures c.in-Some.ensures))) c.copy_proto.ensures
+    (ap (λ (n : Network). n.body) (sym (network_named-found c.args.document.now.sig c.args.document.now.items c.args.name.now _ c.in-Some.ensures.value))) c.copy_proto.ensures
 
 pub returns-in-None : goal.returns-in-None
-returns-in-None c = ap (λ (n : Network). n.body) (sym (network_named-found _ _ _ _ _ c.as_slice.ensures c.in-None.ensures))
+returns-in-None c = ap (λ (n : Network). n.body) (sym (network_named-found c.args.document.now.sig c.args.document.now.items c.args.name.now _ c.in-None.ensures.value))

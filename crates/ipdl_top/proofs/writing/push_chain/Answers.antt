@@ -1,7 +1,7 @@
 use Rattle.std.proofs.Common.{◌∙◌, length, sym, subst, map}
 use Rattle.ipdl_term.specs.Views.{protocol_of}
 use Rattle.ipdl_forms.specs.Documents.{entry_of}
-use Rattle.ipdl_forms.specs.Within.{IsProtocolWithin}
+use Rattle.ipdl_printing.specs.Within.{IsProtocolWithin}
 use Rattle.ipdl_top.proofs.Bodies.{IsProtocolWithin-named, IsProtocolWithin-exchanged}
 use Rattle.ipdl_top.proofs.Texts.{chain_text-pieces}
 use Rattle.ipdl_top.proofs.writing.push_chain.Goals as goal

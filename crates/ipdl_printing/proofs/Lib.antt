@@ -1,0 +1,2 @@
+pub mod PrintedDepth
+pub mod PrintedPlaces

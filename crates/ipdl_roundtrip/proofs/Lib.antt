@@ -1,0 +1,7 @@
+mod PlainNames
+mod PrintedNames
+mod PrintedExpressions
+mod PrintedReactions
+mod PrintedProtocols
+mod PrintedWellFormed
+mod ReadBack

@@ -1,0 +1,18 @@
+//! Tests of the calls of the libraries, beside the crates that have them: a crate with tests is
+//! proved twice. Each public call is run, and each row's answer was worked out by hand.
+#![tactic(auto)]
+
+#[cfg(test)]
+mod building;
+#[cfg(test)]
+mod documents;
+#[cfg(test)]
+mod printing;
+#[cfg(test)]
+mod reading;
+#[cfg(test)]
+mod terms;
+#[cfg(test)]
+mod trees;
+#[cfg(test)]
+mod typing;

@@ -152,7 +152,8 @@ is_application t = has_arguments (argument_kinds (name_in (tree_at 0 (parts_of t
 
 -- ---- the TERM of a step backwards
 
--- whether the rule is one at a reaction, and whether it is one at a protocol
+-- whether the rule is one at a reaction, and whether it is one at a protocol: rules are numbered with those at a
+-- reaction first, then the two at an expression, `table` and `lin`, and then those at a protocol
 abbrev pub is_reaction_rule : List ℕ → Bool
 is_reaction_rule rule = nat_lt (unwrap_or (rule_number rule) 31) 15
 

@@ -37,7 +37,7 @@ pub use put::{TermFault, put_expr, put_react};
 pub use reaction::React;
 pub use sets::{free, must, outs, reads};
 pub use settling::{SettleFault, settle};
-pub use sizes::{channels, coins, depth, nodes};
+pub use sizes::{channels, coins, depth, nodes, proto_nodes};
 pub use step::{Dir, Rule, Step};
 pub use words::{rule_number, rule_word};
 pub use worked::{

@@ -44,8 +44,9 @@ pub(crate) fn react_nodes(term: &React) -> u64
     }
 }
 
-// The nodes of a protocol, of its reactions and of their expressions.
-pub(crate) fn proto_nodes(proto: &Proto) -> u64
+/// How many nodes the protocol has, with those of its reactions and of their expressions. The count
+/// stands at the last `u64` where it is larger.
+pub fn proto_nodes(proto: &Proto) -> u64
     ensures { result ≡ saturated (protocol_nodes (protocol_of proto.now)) }
 {
     match proto {

@@ -10,7 +10,7 @@ ghost use Rattle.ipdl_top.specs.Words.{line, spaced};
 use ipdl_base::NoMemory;
 use ipdl_forms::{AssumeItem, Document, Item, ProtocolItem, TheoremItem};
 use ipdl_sig::{Sig, Symbol};
-use ipdl_term::{Part, channels, coins, copy_proto, nodes};
+use ipdl_term::{channels, coins, proto_nodes};
 use std::alloc::Global;
 
 // A head with a name and two widths.
@@ -40,7 +40,7 @@ fn protocol_line(alloc: Global, protocol: &ProtocolItem) -> Result<String, NoMem
     let inputs = protocol.interface.inputs.as_slice().len();
     let outputs = protocol.interface.outputs.as_slice().len();
     let channels = channels(&protocol.body);
-    let nodes = nodes(&Part::P(copy_proto(alloc, &protocol.body)?));
+    let nodes = proto_nodes(&protocol.body);
     let coins = coins(&protocol.body);
     let mut text = String::new(alloc);
     write!(text, "protocol {name} inputs {inputs} outputs {outputs} ")?;

@@ -1,12 +1,11 @@
 //! Items of a document, in reading order.
 
 ghost use Rattle.std.specs.Prelude.{◌≡◌, ℕ, ◌+◌, ◌<◌, ◌^◌, ◌++◌, [], ◌∷◌, true, Some, length, codes, map, IfOk, OnOk, IfErr};
-ghost use Rattle.ipdl_sig.specs.Symbols.{names_of};
 ghost use Rattle.ipdl_term.specs.Views.{protocol_of};
 ghost use Rattle.ipdl_tree.specs.Trees.{word, group, tree};
 ghost use Rattle.ipdl_tree.specs.Views.{placed, all_placed};
 ghost use Rattle.ipdl_forms.specs.Documents.{protocol_entry, assumption_entry, theorem_entry, move_of, entry_of, symbols_in};
-ghost use Rattle.ipdl_forms.specs.Earlier.{earlier_of, protocol_names, statement_names};
+ghost use Rattle.ipdl_forms.specs.Earlier.{earlier_of, protocol_names};
 ghost use Rattle.ipdl_forms.specs.Faults.{TellsFirst};
 ghost use Rattle.ipdl_forms.specs.Items.{SpellsEntry, body_scope, protocol_form, assume_form, theorem_form, item_faults};
 ghost use Rattle.ipdl_forms.specs.Lists.{word_in, is_among};
@@ -22,7 +21,7 @@ use crate::fault::{DocFault, FormCause};
 use crate::reading::interfaces::read_interface;
 use crate::reading::protocols::read_proto;
 use crate::reading::steps::read_side;
-use crate::reading::symbols::{read_fun, read_new_name, read_table};
+use crate::reading::symbols::{read_fun, read_item_name, read_table};
 use crate::reading::words::not_a_form;
 use crate::scope::Scope;
 use ipdl_base::{Name, Pos};
@@ -84,7 +83,7 @@ fn read_protocol(
     let [name, inputs, outputs, body] = parts else {
         return Err(not_a_form(list));
     };
-    let name = read_new_name(name, alloc, earlier)?;
+    let name = read_item_name(name, alloc, earlier)?;
     let interface = read_interface(inputs, outputs, alloc)?;
     let body = read_body(body, alloc, earlier)?;
     Ok(ProtocolItem {
@@ -112,7 +111,7 @@ fn read_assumption(
     let [name, left, right] = parts else {
         return Err(not_a_form(list));
     };
-    let name = read_new_name(name, alloc, earlier)?;
+    let name = read_item_name(name, alloc, earlier)?;
     let left = read_side_name(left, alloc, earlier.items)?;
     let right = read_side_name(right, alloc, earlier.items)?;
     Ok(AssumeItem { name, left, right })
@@ -136,7 +135,7 @@ fn read_theorem(
     let [name, left, right, lefts, rights] = parts else {
         return Err(not_a_form(list));
     };
-    let name = read_new_name(name, alloc, earlier)?;
+    let name = read_item_name(name, alloc, earlier)?;
     let left = read_side_name(left, alloc, earlier.items)?;
     let right = read_side_name(right, alloc, earlier.items)?;
     let left_steps = read_side(lefts, alloc, earlier, "left", 0)?;
@@ -197,25 +196,10 @@ pub(crate) fn read_item(
     items: &[Item],
 ) -> Result<Item, DocFault>
     requires few { length sig.old + 1 < 2 ^ 32 }
-    ensures spelled { IfOk result (λ item. SpellsEntry (record {
-      symbols = names_of sig.old;
-      protocols = protocol_names items.now;
-      statements = statement_names items.now;
-    })
-        (entry_of sig.new item) (placed tree.now)) }
+    ensures spelled { IfOk result (λ item. SpellsEntry (earlier_at sig.old items.now) (entry_of sig.new item) (placed tree.now)) }
     ensures symbols { IfOk result (λ item. sig.new ≡ sig.old ++ symbols_in (entry_of sig.new item ∷ [])) }
-    ensures clean { OnOk result (item_faults (record {
-      symbols = names_of sig.old;
-      protocols = protocol_names items.now;
-      statements = statement_names items.now;
-    })
-        (placed tree.now) ≡ []) }
-    ensures first { IfErr result (λ fault. TellsFirst fault (item_faults (record {
-      symbols = names_of sig.old;
-      protocols = protocol_names items.now;
-      statements = statement_names items.now;
-    })
-        (placed tree.now))) }
+    ensures clean { OnOk result (item_faults (earlier_at sig.old items.now) (placed tree.now) ≡ []) }
+    ensures first { IfErr result (λ fault. TellsFirst fault (item_faults (earlier_at sig.old items.now) (placed tree.now))) }
 {
     match &tree.node {
         Node::Group(parts) => {

@@ -32,12 +32,17 @@ use std::alloc::Global;
 // The most steps of a theorem, both sides together.
 const MOST_STEPS: usize = 2_048;
 
+// Rules are numbered with those at a reaction first, then those at an expression, then those at a
+// protocol.
+const FIRST_EXPRESSION_RULE: u8 = 15;
+const FIRST_PROTOCOL_RULE: u8 = 17;
+
 // Whether the word is that of a rule at a reaction.
 fn is_reaction_rule(word: &Name) -> bool
     ensures { result ≡ is_reaction_rule word.now }
 {
     match rule_number(word) {
-        Some(number) => number < 15,
+        Some(number) => number < FIRST_EXPRESSION_RULE,
         None => false,
     }
 }
@@ -47,7 +52,7 @@ fn is_reversible(word: &Name) -> bool
     ensures { result ≡ is_reversible word.now }
 {
     match rule_number(word) {
-        Some(number) => number < 15 || number >= 17,
+        Some(number) => number < FIRST_EXPRESSION_RULE || number >= FIRST_PROTOCOL_RULE,
         None => false,
     }
 }

@@ -34,7 +34,7 @@ fn is_taken(earlier: &Earlier, name: &Name) -> bool
 }
 
 // The name of an item.
-pub(crate) fn read_new_name(tree: &Tree, alloc: Global, earlier: &Earlier) -> Result<Name, DocFault>
+pub(crate) fn read_item_name(tree: &Tree, alloc: Global, earlier: &Earlier) -> Result<Name, DocFault>
     ensures spelled { IfOk result (λ name. SpellsNewName (earlier_of earlier.now) name (placed tree.now)) }
     ensures clean { OnOk result (item_name_faults (earlier_of earlier.now) (placed tree.now) ≡ []) }
     ensures first { IfErr result (λ fault. TellsFirst fault (item_name_faults (earlier_of earlier.now) (placed tree.now))) }
@@ -71,7 +71,7 @@ pub(crate) fn read_fun(
     let [name, from, to] = parts else {
         return Err(not_a_form(list));
     };
-    let name = read_new_name(name, alloc, &Earlier { sig, items })?;
+    let name = read_item_name(name, alloc, &Earlier { sig, items })?;
     let from = read_width(from)?;
     let to = read_width(to)?;
     match sig.add_fun(name, from, to) {
@@ -148,7 +148,7 @@ pub(crate) fn read_table(
     let [name, from, to, values] = parts else {
         return Err(not_a_form(list));
     };
-    let name = read_new_name(name, alloc, &Earlier { sig, items })?;
+    let name = read_item_name(name, alloc, &Earlier { sig, items })?;
     let from = read_number(from, GREATEST_TABLE_WIDTH)?;
     let to = read_width(to)?;
     let values = read_values(values, alloc, from, to)?;

@@ -39,6 +39,8 @@ fn items(alloc: Global, source: &str) -> Result<usize, Fail> {
 fn reads_documents(rt: HostRuntime) -> Result<(), Fail> {
     for (source, count) in [
         ("(ipdl 1)", 0),
+        // A comment at every place.
+        (";\n(;\nipdl;\n1;\n(;\nfun;\nf;\n1;\n1;\n);\n);", 1),
         ("(ipdl 1 (fun f 128 0) (table t 1 2 (#00 #11)))", 2),
         (
             "(ipdl 1 (protocol A (inputs (m 1)) (outputs (c 1)) (out c (bind x 1 (read m) (ret x)))))",

@@ -87,9 +87,18 @@ fn refuses_broken_characters(rt: HostRuntime) -> Result<(), Fail> {
     for (source, at) in [
         (b"(ipdl 1) \xC3".as_slice(), 9),
         (b"(a) ;\xC3\n".as_slice(), 5),
+        // Characters of two, three and four bytes that are cut after each of them.
+        (b"(a \xC3".as_slice(), 3),
         (b"(a \xE8".as_slice(), 3),
         (b"(a \xE8\xAA".as_slice(), 3),
+        (b"(a \xF0".as_slice(), 3),
+        (b"(a \xF0\xA0".as_slice(), 3),
         (b"(a \xF0\xA0\x80".as_slice(), 3),
+        // Cut by another character; a byte that goes on with none; half of a pair; a longer form.
+        (b"(a \xE8\xAA )".as_slice(), 3),
+        (b"(a \x80)".as_slice(), 3),
+        (b"(a \xED\xA0\x80)".as_slice(), 3),
+        (b"(a \xC0\xA9)".as_slice(), 3),
         (b"a\xFF".as_slice(), 1),
     ] {
         let fault = spell(at, SpellCause::BadByte);

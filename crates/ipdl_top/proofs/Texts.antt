@@ -20,12 +20,11 @@ five_pieces s₀ a b c d e s₁ s₂ s₃ s₄ s₅ e₁ e₂ e₃ e₄ e₅ =
     ∙ append_assoc s₀ (((a ++ b) ++ c) ++ d) e
 
 -- the lines of a chain
-pub chain_text-pieces : (symbols : List Symbol) (theorem left right : List ℕ) (body term turned : Protocol) (begin s₀ s₁ s₂ s₃ s₄ s₅ : List ℕ) → begin ≡ theorem_line theorem left right → term ≡ body → turned ≡ exchanged term → s₁ ≡ s₀ ++ begin → s₂ ≡ s₁ ++ term_line symbols 0 term → s₃ ≡ s₂ ++ exchange_line → s₄ ≡ s₃ ++ term_line symbols 1 turned → s₅ ≡ s₄ ++ exact_line → s₅ ≡ s₀ ++ chain_text symbols theorem left right body
+pub chain_text-pieces : (symbols : List Symbol) (theorem left right : List ℕ) (body turned : Protocol) (begin s₀ s₁ s₂ s₃ s₄ s₅ : List ℕ) → begin ≡ theorem_line theorem left right → turned ≡ exchanged body → s₁ ≡ s₀ ++ begin → s₂ ≡ s₁ ++ term_line symbols 0 body → s₃ ≡ s₂ ++ exchange_line → s₄ ≡ s₃ ++ term_line symbols 1 turned → s₅ ≡ s₄ ++ exact_line → s₅ ≡ s₀ ++ chain_text symbols theorem left right body
 unfolding chain_text
-chain_text-pieces symbols theorem left right body term turned begin s₀ s₁ s₂ s₃ s₄ s₅ first same after e₁ e₂ e₃ e₄ e₅ =
+chain_text-pieces symbols theorem left right body turned begin s₀ s₁ s₂ s₃ s₄ s₅ first after e₁ e₂ e₃ e₄ e₅ =
     five_pieces s₀ (theorem_line theorem left right) (term_line symbols 0 body) exchange_line (term_line symbols 1 (exchanged body)) exact_line s₁ s₂ s₃ s₄ s₅
-    (e₁ ∙ ap (λ line. s₀ ++ line) first) (e₂ ∙ ap (λ p. s₁ ++ term_line symbols 0 p) same) e₃
-    (e₄ ∙ ap (λ p. s₃ ++ term_line symbols 1 p) (after ∙ ap exchanged same)) e₅
+    (e₁ ∙ ap (λ line. s₀ ++ line) first) e₂ e₃ (e₄ ∙ ap (λ p. s₃ ++ term_line symbols 1 p) after) e₅
 
 -- the last line, as the code writes it
 pub accepted_line-pieces : (theorems : ℕ) → codes "accepted theorems " ++ (decimal theorems ++ (codes " neighbours " ++ (decimal theorems ++ codes "\n"))) ≡ accepted_line theorems theorems

@@ -1,7 +1,7 @@
 -- The first place at which two terms differ. Children are numbered from 0: the reaction of an assignment, the two parts
 -- of a `par`, what stands in a `new`; the expression of a `ret`; the condition and the arms of an `if`; the two
 -- reactions of a `bind`; the operands of an expression.
-use Rattle.std.specs.Prelude.{ℕ, Bool, true, false, List, [], ◌∷◌, nat_eq, bytes_eq, Option, Some, None}
+use Rattle.std.specs.Prelude.{ℕ, Bool, true, false, List, [], ◌∷◌, reverse, nat_eq, bytes_eq, Option, Some, None}
 use Rattle.std.specs.Option.{option_or}
 use Rattle.ipdl_base.specs.Bits.{same_bits}
 use Rattle.ipdl_term.specs.Terms.{Expression, literal, variable, outer, application, exclusive, conjunction, negation, concatenation, segment, equality, selection, Reaction, returning, flipping, reading, branching, binding, Protocol, nil, assignment, parallel, hiding}
@@ -68,3 +68,8 @@ differing_place (parallel p q) (parallel r s) =
 differing_place (hiding c v p) (hiding d w q) =
     here_unless (bytes_eq c d) (here_unless (nat_eq v w) (below 0 (differing_place p q)))
 differing_place _ _ = Some []
+
+-- the place whose children are given from the innermost to the outermost
+abbrev pub outward : Option (List ℕ) → Option (List ℕ)
+outward None = None
+outward (Some children) = Some (reverse children)

@@ -1,14 +1,14 @@
 // The first place at which two terms differ.
 
-ghost use Rattle.std.specs.Prelude.{◌≡◌, [], IfOk};
+ghost use Rattle.std.specs.Prelude.{◌≡◌, [], Some, IfOk};
 ghost use Rattle.ipdl_term.specs.Views.{expression_of, reaction_of, protocol_of};
-ghost use Rattle.ipdl_top.specs.Ends.{exchanged, below, differing_in_expression, differing_in_reaction, differing_place};
+ghost use Rattle.ipdl_top.specs.Ends.{exchanged, below, outward, differing_in_expression, differing_in_reaction, differing_place};
 
 use ipdl_base::{List, NoMemory};
 use ipdl_term::{Expr, Proto, React};
 use std::alloc::Global;
 
-// A place, if there is one.
+// A place, if there is one. Its last child is the outermost, so that going outward takes one push.
 type Found = Option<List<u32>>;
 
 // The protocol with the two parts of a `par` exchanged.
@@ -23,28 +23,27 @@ pub(crate) fn exchanged(proto: Proto) -> Proto
 
 // The place in the child of this number.
 fn below(child: u32, place: Found) -> Result<Found, NoMemory>
-    ensures { IfOk result (λ r. r ≡ below child place) }
+    ensures { IfOk result (λ r. outward r ≡ below child (outward place)) }
 {
     match place {
         None => Ok(None),
-        Some(place) => {
-            let mut children = place.into_vec();
-            children.insert(0, child)?;
-            Ok(Some(List::from_vec(children)))
+        Some(mut children) => {
+            children.push(child)?;
+            Ok(Some(children))
         }
     }
 }
 
 // The place of the whole term.
 fn here(alloc: Global) -> Found
-    ensures { result ≡ Some [] }
+    ensures { outward result ≡ Some [] }
 {
     Some(List::empty(alloc))
 }
 
 // The first place at which the expressions differ.
 fn differing_in_expr(alloc: Global, left: &Expr, right: &Expr) -> Result<Found, NoMemory>
-    ensures { IfOk result (λ r. r ≡ differing_in_expression (expression_of left.now) (expression_of right.now)) }
+    ensures { IfOk result (λ r. outward r ≡ differing_in_expression (expression_of left.now) (expression_of right.now)) }
 {
     match (left, right) {
         (Expr::Lit(a), Expr::Lit(b)) if *a == *b => Ok(None),
@@ -81,7 +80,7 @@ fn differing_in_expr(alloc: Global, left: &Expr, right: &Expr) -> Result<Found, 
 
 // The first place at which the reactions differ.
 fn differing_in_react(alloc: Global, left: &React, right: &React) -> Result<Found, NoMemory>
-    ensures { IfOk result (λ r. r ≡ differing_in_reaction (reaction_of left.now) (reaction_of right.now)) }
+    ensures { IfOk result (λ r. outward r ≡ differing_in_reaction (reaction_of left.now) (reaction_of right.now)) }
 {
     match (left, right) {
         (React::Ret(a), React::Ret(b)) => below(0, differing_in_expr(alloc, a, b)?),
@@ -106,9 +105,9 @@ fn differing_in_react(alloc: Global, left: &React, right: &React) -> Result<Foun
     }
 }
 
-// The first place in preorder at which the protocols differ.
-pub(crate) fn differing_place(alloc: Global, left: &Proto, right: &Proto) -> Result<Found, NoMemory>
-    ensures { IfOk result (λ r. r ≡ differing_place (protocol_of left.now) (protocol_of right.now)) }
+// The first place at which the protocols differ.
+fn differing_in_proto(alloc: Global, left: &Proto, right: &Proto) -> Result<Found, NoMemory>
+    ensures { IfOk result (λ r. outward r ≡ differing_place (protocol_of left.now) (protocol_of right.now)) }
 {
     match (left, right) {
         (Proto::Nil, Proto::Nil) => Ok(None),
@@ -116,14 +115,32 @@ pub(crate) fn differing_place(alloc: Global, left: &Proto, right: &Proto) -> Res
             below(0, differing_in_react(alloc, r, s)?)
         }
         (Proto::Par(p, q), Proto::Par(r, s)) => {
-            if let Some(place) = differing_place(alloc, p, r)? {
+            if let Some(place) = differing_in_proto(alloc, p, r)? {
                 return below(0, Some(place));
             }
-            below(1, differing_place(alloc, q, s)?)
+            below(1, differing_in_proto(alloc, q, s)?)
         }
         (Proto::Hide(c, v, p), Proto::Hide(d, w, q)) if *c == *d && *v == *w => {
-            below(0, differing_place(alloc, p, q)?)
+            below(0, differing_in_proto(alloc, p, q)?)
         }
         _ => Ok(here(alloc)),
+    }
+}
+
+// The first place in preorder at which the protocols differ, from the root on.
+pub(crate) fn differing_place(
+    alloc: Global,
+    left: &Proto,
+    right: &Proto,
+) -> Result<Option<List<u32>>, NoMemory>
+    ensures { IfOk result (λ r. r ≡ differing_place (protocol_of left.now) (protocol_of right.now)) }
+{
+    match differing_in_proto(alloc, left, right)? {
+        None => Ok(None),
+        Some(place) => {
+            let mut children = place.into_vec();
+            children.reverse();
+            Ok(Some(List::from_vec(children)))
+        }
     }
 }

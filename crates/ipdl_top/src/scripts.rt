@@ -21,7 +21,7 @@ use crate::typing::{GREATEST_DEPTH, is_deep, push_place};
 use crate::writing::{push_accepted_line, push_chain};
 use ipdl_base::{Limit, Name, NoMemory, Pos};
 use ipdl_forms::{Document, Item, TheoremItem};
-use ipdl_term::{Proto, Rule, Step};
+use ipdl_term::{Proto, Rule, Step, copy_proto};
 use ipdl_tree::{Node, Tree};
 use std::alloc::Global;
 
@@ -107,28 +107,29 @@ fn push_followed(
     ensures reply { IfOk result (λ r. option_map answered r ≡ exchange_refusal document.now.sig (document_of document.now).entries (length text.old.items) theorem.now.name theorem.now.left theorem.now.right) }
     ensures text { IfOk result (λ r. r ≡ None → text.new.items ≡ text.old.items ++ chain_text document.now.sig theorem.now.name theorem.now.left theorem.now.right (body_named (document_of document.now).entries theorem.now.left)) }
 {
-    let left = body_named(alloc, document, &theorem.left)?;
-    if !is_parallel(&left) {
+    let none = Proto::Nil;
+    let left = body_named(document, &theorem.left, &none);
+    if !is_parallel(left) {
         return Ok(Some(Answer {
             status: Status::WrongStep,
             text: no_match_text(alloc, &theorem.name)?,
         }));
     }
-    let turned = exchanged(left);
+    let turned = exchanged(copy_proto(alloc, left)?);
     if is_deep(&turned) {
         return Ok(Some(Answer {
             status: Status::OverLimit,
             text: limit_at_step(alloc, Limit::Depth, GREATEST_DEPTH, &theorem.name)?,
         }));
     }
-    let right = body_named(alloc, document, &theorem.right)?;
-    if let Some(place) = differing_place(alloc, &turned, &right)? {
+    let right = body_named(document, &theorem.right, &none);
+    if let Some(place) = differing_place(alloc, &turned, right)? {
         return Ok(Some(Answer {
             status: Status::WrongStep,
             text: ends_text(alloc, &theorem.name, place.as_slice())?,
         }));
     }
-    push_chain(alloc, text, document, theorem)?;
+    push_chain(alloc, text, &document.sig, theorem, left, &turned)?;
     if text.len() as u64 > Limit::Output.number() {
         return Ok(Some(Answer {
             status: Status::OverLimit,

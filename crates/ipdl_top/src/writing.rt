@@ -4,11 +4,9 @@ ghost use Rattle.std.specs.Prelude.{◌≡◌, ◌++◌, IfOk, OnOk, length, str
 ghost use Rattle.ipdl_term.specs.Views.{protocol_of};
 ghost use Rattle.ipdl_forms.specs.Documents.{document_of};
 ghost use Rattle.ipdl_printing.specs.Within.{IsProtocolWithin};
-ghost use Rattle.ipdl_top.specs.Lookups.{body_named, HasBodiesWithin};
 ghost use Rattle.ipdl_top.specs.Chains.{theorem_line, term_line, chain_text, accepted_line, theorem_count};
+ghost use Rattle.ipdl_top.specs.Ends.{exchanged};
 
-use crate::comparing::exchanged;
-use crate::finding::body_named;
 use ipdl_base::{Name, NoMemory};
 use ipdl_forms::{Document, Item, TheoremItem};
 use ipdl_printing::show_proto;
@@ -53,22 +51,24 @@ fn push_term(
     Ok(())
 }
 
-// Writes the chain of a theorem.
+// Writes the chain of a theorem: the left protocol, and it with its two parts exchanged.
 pub(crate) fn push_chain(
     alloc: Global,
     text: &mut Vec<u8>,
-    document: &Document,
+    sig: &Sig,
     theorem: &TheoremItem,
+    left: &Proto,
+    turned: &Proto,
 ) -> Result<(), NoMemory>
-    requires { HasBodiesWithin (length document.now.sig) (document_of document.now).entries }
-    ensures { OnOk result (text.new.items ≡ text.old.items ++ chain_text document.now.sig theorem.now.name theorem.now.left theorem.now.right (body_named (document_of document.now).entries theorem.now.left)) }
+    requires within { IsProtocolWithin (length sig.now) (protocol_of left.now) }
+    requires turned { protocol_of turned.now ≡ exchanged (protocol_of left.now) }
+    ensures { OnOk result (text.new.items ≡ text.old.items ++ chain_text sig.now theorem.now.name theorem.now.left theorem.now.right (protocol_of left.now)) }
 {
     let begin = theorem_text(alloc, &theorem.name, &theorem.left, &theorem.right)?;
-    let term = body_named(alloc, document, &theorem.left)?;
     text.extend_from_slice(begin.as_bytes())?;
-    push_term(alloc, text, &document.sig, 0, &term)?;
+    push_term(alloc, text, sig, 0, left)?;
     text.extend_from_slice(b"by rule lr comm ()\n")?;
-    push_term(alloc, text, &document.sig, 1, &exchanged(term))?;
+    push_term(alloc, text, sig, 1, turned)?;
     text.extend_from_slice(b"exact 1 assumed 0\n")?;
     Ok(())
 }

@@ -35,6 +35,7 @@ const MOST_STEPS: usize = 2_048;
 // Rules are numbered with those at a reaction first, then those at an expression, then those at a
 // protocol.
 const FIRST_EXPRESSION_RULE: u8 = 15;
+
 const FIRST_PROTOCOL_RULE: u8 = 17;
 
 // Whether the word is that of a rule at a reaction.

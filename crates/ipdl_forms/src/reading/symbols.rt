@@ -34,7 +34,11 @@ fn is_taken(earlier: &Earlier, name: &Name) -> bool
 }
 
 // The name of an item.
-pub(crate) fn read_item_name(tree: &Tree, alloc: Global, earlier: &Earlier) -> Result<Name, DocFault>
+pub(crate) fn read_item_name(
+    tree: &Tree,
+    alloc: Global,
+    earlier: &Earlier,
+) -> Result<Name, DocFault>
     ensures spelled { IfOk result (λ name. SpellsNewName (earlier_of earlier.now) name (placed tree.now)) }
     ensures clean { OnOk result (item_name_faults (earlier_of earlier.now) (placed tree.now) ≡ []) }
     ensures first { IfErr result (λ fault. TellsFirst fault (item_name_faults (earlier_of earlier.now) (placed tree.now))) }

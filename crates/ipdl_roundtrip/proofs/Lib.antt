@@ -5,3 +5,4 @@ mod PrintedReactions
 mod PrintedProtocols
 mod PrintedWellFormed
 mod ReadBack
+mod PrintedItems

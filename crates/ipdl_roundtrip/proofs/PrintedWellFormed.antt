@@ -21,7 +21,7 @@ is_name-symbol symbols f below named =
     ap is_name (symbol_name-there symbols f there.0 there.1) ∙ named f there.0 there.1
 
 -- a width fits a number of a tree
-width-fits : (w : ℕ) → w ≤ 128 → w < 2 ^ 32
+pub width-fits : (w : ℕ) → w ≤ 128 → w < 2 ^ 32
 width-fits w h = omega arith
 
 IsWellFormed-expression : (symbols : List Symbol) (d : ℕ) (e : Expression) → HaveNames symbols → d ≤ 190 → IsExpressionWithin (length symbols) d e → HasNoOuterInExpression e → HasSmallNumbersInExpression e → IsWellFormed (expression_tree symbols d e)

@@ -1,19 +1,20 @@
 -- Which protocols have a text that is read back as they are.
-use Rattle.std.specs.Prelude.{◌≡◌, ℕ, ◌≤◌, false, List, [], length, slice_get, codes, Some, IsTrue}
+use Rattle.std.specs.Prelude.{◌≡◌, ℕ, ◌≤◌, false, List, [], ◌∷◌, ◌++◌, length, map, slice_get, codes, Some, IsTrue}
 use Rattle.ipdl_base.specs.Names.{is_name}
 use Rattle.ipdl_sig.specs.declared.symbol.Symbol.{Symbol}
 use Rattle.ipdl_sig.specs.Symbols.{AreNumbered, names_of}
 use Rattle.ipdl_term.specs.Terms.{Expression, literal, variable, outer, application, exclusive, conjunction, negation, concatenation, segment, equality, selection, Reaction, returning, flipping, reading, branching, binding, Protocol, nil, assignment, parallel, hiding}
 use Rattle.ipdl_term.specs.Sizes.{most_nodes, protocol_nodes, printed_depth}
 use Rattle.ipdl_term.specs.declared.interface.Interface.{Interface}
-use Rattle.ipdl_tree.specs.Trees.{Placed, without_places}
-use Rattle.ipdl_forms.specs.Items.{SpellsNewName, SpellsInterface}
-use Rattle.ipdl_forms.specs.Lists.{operand, IsForm}
+use Rattle.ipdl_term.specs.declared.interface.Port.{Port}
+use Rattle.ipdl_tree.specs.Trees.{Placed, word, without_places}
+use Rattle.ipdl_forms.specs.Items.{SpellsNewName, SpellsInterface, is_taken, port_names}
+use Rattle.ipdl_forms.specs.Lists.{is_among, operand, IsForm}
 use Rattle.ipdl_forms.specs.Operators.{is_operator}
 use Rattle.ipdl_forms.specs.Scopes.{Scope}
 use Rattle.ipdl_forms.specs.Steps.{Earlier}
 use Rattle.ipdl_forms.specs.Widths.{greatest_width}
-use Rattle.ipdl_printing.specs.Printing.{protocol_tree}
+use Rattle.ipdl_printing.specs.Printing.{headed, port_tree, protocol_tree}
 use Rattle.ipdl_printing.specs.Within.{IsProtocolWithin}
 
 -- ---- no variable of a binder outside of the term
@@ -138,3 +139,28 @@ pub record ShowsItem (earlier : Earlier) (symbols : List Symbol) (name : List �
   pub named : SpellsNewName earlier name (operand 0 t)
   pub ports : SpellsInterface interface (operand 1 t) (operand 2 t)
   pub body : without_places (operand 3 t) ≡ without_places (protocol_tree symbols p)
+
+-- the trees of ports
+abbrev pub port_trees : List Port → List Placed
+port_trees ports = map (λ (port : Port). port_tree port.name port.width) ports
+
+-- the tree of the item: its text is `(protocol NAME (inputs ..) (outputs ..) TEXT)`, TEXT being what shows the protocol
+abbrev pub item_tree : List Symbol → (name : List ℕ) → Interface → Protocol → Placed
+item_tree symbols name interface p =
+    headed (codes "protocol")
+    (word 0 name ∷ headed (codes "inputs") (port_trees interface.inputs)
+    ∷ headed (codes "outputs") (port_trees interface.outputs) ∷ protocol_tree symbols p ∷ [])
+
+-- ports that may be written, of which no two have one name, and none a name that came before
+abbrev pub MayBeDeclared : (before : List (List ℕ)) → List Port → Type 0
+MayBeDeclared before [] = Unit {0}
+MayBeDeclared before (p ∷ ps) =
+    IsTrue (is_name p.name) × (p.width ≤ greatest_width) × (is_among before p.name ≡ false)
+    × MayBeDeclared (before ++ p.name ∷ []) ps
+
+-- an item may have the name and the ports, after the earlier items
+pub record IsDeclarable (earlier : Earlier) (name : List ℕ) (interface : Interface) : Type 0 where
+  pub named : IsTrue (is_name name)
+  pub free : is_taken earlier name ≡ false
+  pub inputs : MayBeDeclared [] interface.inputs
+  pub outputs : MayBeDeclared (port_names interface.inputs) interface.outputs

@@ -6,7 +6,7 @@ ghost use Rattle.ipdl_forms.specs.Documents.{Entry, protocol_entry};
 ghost use Rattle.ipdl_forms.specs.Items.{SpellsEntry, item_faults};
 ghost use Rattle.ipdl_forms.specs.Protocols.{SpellsProtocol, protocol_faults};
 ghost use Rattle.ipdl_forms.specs.Steps.{Earlier};
-ghost use Rattle.ipdl_roundtrip.specs.Shown.{IsNamed, IsShowable, ShowsItem, shown_scope};
+ghost use Rattle.ipdl_roundtrip.specs.Shown.{IsDeclarable, IsNamed, IsShowable, ShowsItem, item_tree, shown_scope};
 ghost use Rattle.ipdl_sig.specs.Symbols.{names_of};
 ghost use Rattle.ipdl_sig.specs.declared.symbol.Symbol.{Symbol};
 ghost use Rattle.ipdl_term.specs.declared.interface.Interface.{Interface};
@@ -74,3 +74,21 @@ pub fn shown_item_is_read_back()
         earlier.symbols ≡ names_of symbols → ShowsItem earlier symbols name interface p t →
         item_faults earlier t ≡ [] }
 {}
+
+/// The text of a protocol item that shows a protocol, `(protocol NAME (inputs ..) (outputs ..) TEXT)`,
+/// has no refusal as a tree, and each tree that it spells is that of such an item: it is read back
+/// as the item with the protocol.
+pub fn shown_item_is_read()
+    ensures read { (earlier : Earlier) (symbols : List Symbol) (name : List ℕ)
+        (interface : Interface) (p : Protocol) → IsShowable symbols p → IsNamed symbols p →
+        IsDeclarable earlier name interface →
+        refusal (tree_text (item_tree symbols name interface p)) ≡ None }
+    ensures shows { (earlier : Earlier) (symbols : List Symbol) (name : List ℕ)
+        (interface : Interface) (p : Protocol) → IsShowable symbols p → IsNamed symbols p →
+        IsDeclarable earlier name interface → (t : Placed) →
+        SpellsSource t (tree_text (item_tree symbols name interface p)) →
+        ShowsItem earlier symbols name interface p t }
+{
+    written_is_read();
+    one_tree();
+}

@@ -35,7 +35,10 @@ impl Place<'_> {
         }
     }
 
-    // The fault of this cause here.
+    // The fault of this cause here. What a fault wants stays out of the frames of the functions that
+    // walk through a term, since a term may have thousands of levels.
+    #[cold]
+    #[inline(never)]
     pub(crate) fn fault(&self, alloc: Global, cause: IllCause) -> TypeFault
         ensures { Tells result (record { path = path_of self.now; cause = cause_of cause }) }
     {
@@ -46,6 +49,7 @@ impl Place<'_> {
     }
 
     // Checks that the width here is the wanted one.
+    #[inline(never)]
     pub(crate) fn expect_width(&self, alloc: Global, want: u8, got: u8) -> Result<(), TypeFault>
         ensures clean { OnOk result
             (checked (got == want) (path_of self.now) (width want got) ≡ []) }
@@ -65,6 +69,7 @@ impl Place<'_> {
     }
 
     // Checks that the width that is declared here is one that values may have.
+    #[inline(never)]
     pub(crate) fn expect_allowed(&self, alloc: Global, got: u8) -> Result<(), TypeFault>
         ensures clean { OnOk result
             (checked (nat_le got 128) (path_of self.now) (width 128 got) ≡ []) }

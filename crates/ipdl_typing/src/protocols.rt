@@ -20,7 +20,9 @@ use ipdl_sig::Sig;
 use ipdl_term::{Interface, Port, Proto, React};
 use std::alloc::Global;
 
-// Checks the assignment at the place, and notes that its channel is written.
+// Checks the assignment at the place, and notes that its channel is written. Where it stood in
+// `check_at`, each of the thousands of levels that a protocol may have would want its room.
+#[inline(never)]
 fn check_assignment(
     alloc: Global,
     sig: &Sig,

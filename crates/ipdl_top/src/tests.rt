@@ -216,7 +216,7 @@ fn says_what_a_document_has(rt: HostRuntime) -> Result<(), Fail> {
         // The hidden channel counts; of the arms of an `if` the one that draws more.
         (
             "(ipdl 1 (protocol A (inputs (m 1)) (outputs (c 3)) (new ((h 2)) (par (out h (flip 2)) (out c (bind x 1 (read m) (if x (flip 3) (ret #000))))))))",
-            "protocol A inputs 1 outputs 1 channels 2 nodes 11 coins 5\ntyped items 1\n",
+            "protocol A inputs 1 outputs 1 channels 2 nodes 12 coins 5\ntyped items 1\n",
         ),
         (
             "(ipdl 1 (protocol A (inputs) (outputs (a 1)) (out a (ret #0))) (assume s A A))",

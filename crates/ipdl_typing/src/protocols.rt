@@ -20,8 +20,8 @@ use ipdl_sig::Sig;
 use ipdl_term::{Interface, Port, Proto, React};
 use std::alloc::Global;
 
-// Checks the assignment at the place, and notes that its channel is written. Where it stood in
-// `check_at`, each of the thousands of levels that a protocol may have would want its room.
+// Checks the assignment at the place, and notes that its channel is written. It is kept out of the
+// frames of `check_at`, of which there is one for each of the thousands of levels of a protocol.
 #[inline(never)]
 fn check_assignment(
     alloc: Global,

@@ -1,3 +1,4 @@
+-- The limits: the one place where their numbers stand.
 use Rattle.std.specs.Prelude.{ℕ}
 use Rattle.ipdl_base.specs.declared.limit.Limit.{Limit}
 use Rattle.ipdl_base.specs.declared.limit.Limit.TheVariants.{Source, Depth, Items, Channels, Nodes, Steps, Chain, Output, Coins}

@@ -1,3 +1,5 @@
+//! Values of at most 128 bits, and the operations on them.
+
 ghost use Rattle.std.specs.Prelude.{◌≡◌, ◌+◌, ◌-◌, ◌*◌, ◌^◌, ◌<◌, ◌≤◌, ◌↔◌, [], ◌∷◌, ◌++◌, length, take, drop, IsTrue, IfOk, IfErr, OnOk, OnErr};
 ghost use Rattle.std.specs.Option.{SomeIff};
 ghost use Rattle.ipdl_base.specs.Bits.{bits_of, number_of, xor_bits, and_bits, not_bits, same_bits};

@@ -1,8 +1,10 @@
+//! The limits, each with its number, and offsets in a source.
+
 ghost use Rattle.std.specs.Prelude.{◌≡◌};
 ghost use Rattle.ipdl_base.specs.Limits.{limit_number};
 
-/// A place in a source: the number of bytes before it.
-#[derive(Clone, Copy, Debug, PartialEq, Eq, PartialOrd, Ord)]
+/// An offset in a source: the number of bytes before it.
+#[derive(Clone, Copy, Debug, PartialEq, Eq)]
 pub struct Pos(pub u32);
 
 /// What is counted and kept within bounds.
@@ -10,7 +12,7 @@ pub struct Pos(pub u32);
 pub enum Limit {
     /// The bytes of a source.
     Source,
-    /// The parentheses that are open at one place.
+    /// The parentheses that are open at one offset.
     Depth,
     /// The items of a document.
     Items,

@@ -1,3 +1,5 @@
+//! Lists that contracts see as the list of their elements.
+
 ghost use Rattle.std.specs.Prelude.{◌≡◌, [], ◌∷◌, ◌++◌, OnOk, OnErr};
 
 use crate::memory::NoMemory;

@@ -1,3 +1,5 @@
+//! The error that memory ran out.
+
 use std::alloc::{AllocError, AllocFailed};
 
 /// Memory ran out. `?` makes it of each error that std gives for want of memory.

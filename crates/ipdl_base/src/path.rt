@@ -1,3 +1,5 @@
+//! Paths: the place of a node in a term.
+
 ghost use Rattle.std.specs.Prelude.{◌≡◌, ◌↔◌, [], ◌∷◌, ◌++◌, IsTrue, OnOk, OnErr, bytes_eq};
 
 use crate::memory::NoMemory;

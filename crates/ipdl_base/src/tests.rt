@@ -1,14 +1,18 @@
+//! Tests of bits, names, paths, lists and limits.
+
 use crate::{Bits, Limit, List, Name, NameFault, OutOfBits, Path};
 use std::cmp::Ordering;
-use std::collections::HashMap;
 use std::test::Fail;
 
-fn bits(width: u8, value: u128) -> Result<Bits, Fail> {
-    Ok(Bits::new(width, value).ok_or("no such bits")?)
+// A width with a value.
+type Told = (u8, u128);
+
+fn told(bits: Bits) -> Told {
+    (bits.width(), bits.value())
 }
 
 #[test]
-fn makes_bits_within_the_width(rt: HostRuntime) -> Result<(), Fail> {
+fn makes_bits_within_the_width(rt: HostRuntime) {
     for (width, value, fits) in [
         (2, 3, true),
         (2, 4, false),
@@ -18,62 +22,90 @@ fn makes_bits_within_the_width(rt: HostRuntime) -> Result<(), Fail> {
         (129, 0, false),
         (255, 1, false),
     ] {
-        let made = Bits::new(width, value);
-        assert_eq!(rt; made.is_some(), fits, "{value} in {width} bits");
-        if let Some(made) = made {
-            assert_eq!(rt; (made.width(), made.value()), (width, value));
-        }
+        let want = fits.then_some((width, value));
+        assert_eq!(rt;
+            Bits::new(width, value).map(told),
+            want,
+            "{value} in {width} bits"
+        );
+    }
+}
+
+// The operands, and what `xor`, `and`, `cat` and `same` make of them.
+const OF_TWO: [(Told, Told, [Option<Told>; 4]); 6] = [
+    (
+        (4, 0b0011),
+        (4, 0b0101),
+        [
+            Some((4, 0b0110)),
+            Some((4, 0b0001)),
+            Some((8, 0b0011_0101)),
+            Some((1, 0)),
+        ],
+    ),
+    (
+        (0, 0),
+        (0, 0),
+        [Some((0, 0)), Some((0, 0)), Some((0, 0)), Some((1, 1))],
+    ),
+    (
+        (4, 0b0011),
+        (3, 0b011),
+        [None, None, Some((7, 0b0011_011)), None],
+    ),
+    (
+        (128, u128::MAX),
+        (128, u128::MAX),
+        [Some((128, 0)), Some((128, u128::MAX)), None, Some((1, 1))],
+    ),
+    ((2, 0b01), (1, 0b1), [None, None, Some((3, 0b011)), None]),
+    (
+        (0, 0),
+        (128, u128::MAX),
+        [None, None, Some((128, u128::MAX)), None],
+    ),
+];
+
+// What `xor`, `and`, `cat` and `same` make of the two.
+fn made(a: Bits, b: Bits) -> [Option<Told>; 4] {
+    [a.xor(b), a.and(b), a.cat(b), a.same(b)].map(|bits| bits.map(told))
+}
+
+#[test]
+fn works_on_two(rt: HostRuntime) -> Result<(), Fail> {
+    for (left, right, want) in OF_TWO {
+        let a = Bits::new(left.0, left.1).ok_or("no such bits")?;
+        let b = Bits::new(right.0, right.1).ok_or("no such bits")?;
+        assert!(rt; made(a, b) == want && (a == b) == (left == right));
     }
     Ok(())
 }
 
 #[test]
-fn works_on_bits(rt: HostRuntime) -> Result<(), Fail> {
-    let none = bits(0, 0)?;
-    let all = bits(128, u128::MAX)?;
-    let low = bits(4, 0b0011)?;
-    let mixed = bits(4, 0b0101)?;
-
-    assert_eq!(rt; low.xor(mixed), Some(bits(4, 0b0110)?));
-    assert_eq!(rt; all.xor(all), Some(bits(128, 0)?));
-    assert_eq!(rt; low.xor(none), None);
-    assert_eq!(rt; low.and(mixed), Some(bits(4, 0b0001)?));
-    assert_eq!(rt; none.and(none), Some(none));
-    assert_eq!(rt; low.and(all), None);
-    assert_eq!(rt; low.not(), bits(4, 0b1100)?);
-    assert_eq!(rt; none.not(), none);
-    assert_eq!(rt; all.not(), bits(128, 0)?);
-
-    assert_eq!(rt; bits(2, 0b01)?.cat(bits(1, 0b1)?), Some(bits(3, 0b011)?));
-    assert_eq!(rt; bits(1, 0b1)?.cat(bits(2, 0b01)?), Some(bits(3, 0b101)?));
-    assert_eq!(rt; none.cat(all), Some(all));
-    assert_eq!(rt; all.cat(none), Some(all));
-    assert_eq!(rt; all.cat(bits(1, 0)?), None);
-
-    assert_eq!(rt; low.same(low), Some(bits(1, 1)?));
-    assert_eq!(rt; low.same(mixed), Some(bits(1, 0)?));
-    assert_eq!(rt; none.same(none), Some(bits(1, 1)?));
-    assert_eq!(rt; low.same(bits(3, 0b011)?), None);
-    assert!(rt; low != bits(3, 0b011)?);
-    Ok(())
-}
-
-#[test]
-fn cuts_bits(rt: HostRuntime) -> Result<(), Fail> {
-    let three = bits(3, 0b011)?;
-    let all = bits(128, u128::MAX)?;
-    assert_eq!(rt; three.cut(0, 2), Ok(bits(2, 0b01)?));
-    assert_eq!(rt; three.cut(1, 2), Ok(bits(2, 0b11)?));
-    assert_eq!(rt; three.cut(1, 1), Ok(bits(1, 0b1)?));
-    assert_eq!(rt; three.cut(3, 0), Ok(bits(0, 0)?));
-    assert_eq!(rt; three.cut(1, 3), Err(OutOfBits { end: 4, width: 3 }));
-    assert_eq!(rt; all.cut(0, 128), Ok(all));
-    assert_eq!(rt; all.cut(128, 0), Ok(bits(0, 0)?));
-    let past = OutOfBits {
-        end: 510,
-        width: 128,
-    };
-    assert_eq!(rt; all.cut(255, 255), Err(past));
+fn works_on_one(rt: HostRuntime) -> Result<(), Fail> {
+    for (width, value, from, count, not, cut) in [
+        (3, 0b011, 0, 2, 0b100, Ok((2, 0b01))),
+        (3, 0b011, 1, 2, 0b100, Ok((2, 0b11))),
+        (3, 0b011, 3, 0, 0b100, Ok((0, 0))),
+        (3, 0b011, 1, 3, 0b100, Err(OutOfBits { end: 4, width: 3 })),
+        (0, 0, 0, 0, 0, Ok((0, 0))),
+        (128, u128::MAX, 0, 128, 0, Ok((128, u128::MAX))),
+        (
+            128,
+            u128::MAX,
+            255,
+            255,
+            0,
+            Err(OutOfBits {
+                end: 510,
+                width: 128,
+            }),
+        ),
+    ] {
+        let bits = Bits::new(width, value).ok_or("no such bits")?;
+        assert_eq!(rt; told(bits.not()), (width, not));
+        assert_eq!(rt; bits.cut(from, count).map(told), cut);
+    }
     Ok(())
 }
 
@@ -109,34 +141,28 @@ fn refuses_other_texts(rt: HostRuntime) {
 
 #[test]
 fn orders_names_by_bytes(rt: HostRuntime) -> Result<(), Fail> {
-    let capital = Name::read(rt.alloc(), "B")?;
-    let short = Name::read(rt.alloc(), "a")?;
-    let long = Name::read(rt.alloc(), "a1")?;
-    let accented = Name::read(rt.alloc(), "é")?;
-    assert!(rt; capital < short && short < long && long < accented);
-    assert_eq!(rt; long.cmp(&long.copy(rt.alloc())?), Ordering::Equal);
-
-    let mut widths = HashMap::new(rt.alloc());
-    let _ = widths.insert(short.copy(rt.alloc())?, 3u8)?;
-    assert_eq!(rt; widths.get(&short).copied(), Some(3));
-    assert_eq!(rt; widths.get(&long).copied(), None);
+    for (low, high) in [("B", "a"), ("a", "a1"), ("a1", "é")] {
+        let low = Name::read(rt.alloc(), low)?;
+        let high = Name::read(rt.alloc(), high)?;
+        assert_eq!(rt; low.cmp(&high), Ordering::Less);
+    }
     Ok(())
 }
 
 #[test]
-fn grows_paths_and_lists(rt: HostRuntime) -> Result<(), Fail> {
+fn grows_paths(rt: HostRuntime) -> Result<(), Fail> {
     let mut path = Path::root(rt.alloc());
-    assert!(rt; path == Path::root(rt.alloc()));
     path.push(1)?;
-    assert_eq!(rt; path.parts(), [1].as_slice());
-    assert!(rt; path != Path::root(rt.alloc()));
+    assert!(rt; path.parts() == [1].as_slice() && path != Path::root(rt.alloc()));
+    Ok(())
+}
 
-    let mut list = List::empty(rt.alloc());
-    list.push(1u8)?;
-    assert_eq!(rt; list.as_slice(), [1].as_slice());
-    assert!(rt; list == List::from_vec(vec![in rt.alloc(); 1]?));
-    assert!(rt; list != List::empty(rt.alloc()));
-    assert_eq!(rt; list.into_vec().len(), 1);
+#[test]
+fn grows_lists(rt: HostRuntime) -> Result<(), Fail> {
+    let mut list = List::from_vec(vec![in rt.alloc(); 1u8]?);
+    list.push(2)?;
+    assert!(rt; list.as_slice() == [1, 2].as_slice() && list != List::empty(rt.alloc()));
+    assert_eq!(rt; list.into_vec().len(), 2);
     Ok(())
 }
 

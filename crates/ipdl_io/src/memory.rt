@@ -1,4 +1,4 @@
-// A source and a sink in memory, whose failures are planned.
+//! A source and a sink in memory, whose failures are planned.
 ghost use Rattle.std.specs.Prelude.{◌≡◌, ◌<◌, ◌≤◌, [], Some, length, IfOk};
 ghost use Rattle.ipdl_io.specs.Faults.{last_count};
 ghost use Rattle.ipdl_io.specs.Memory.{fails_at, read_answer, after_read, write_answer, after_write};

@@ -1,4 +1,4 @@
-// The readers and writers of std as sources and sinks.
+//! The readers and writers of std as sources and sinks.
 ghost use Rattle.std.specs.Prelude.{◌≡◌, ◌<◌, ◌≤◌, None, length, IfSome};
 ghost use Rattle.ipdl_io.specs.Faults.{last_count};
 

@@ -1,4 +1,4 @@
-// What a source and a sink are.
+//! What a source and a sink are.
 ghost use Rattle.std.specs.Prelude.{ℕ, ◌<◌, ◌≤◌, List, length, Option};
 
 /// What a read gave.

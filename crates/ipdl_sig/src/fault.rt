@@ -1,3 +1,5 @@
+//! Why a symbol is not added to a signature.
+
 /// Why a symbol was not added. Where several causes hold, it is the first in this order.
 #[derive(Clone, Copy, Debug, PartialEq, Eq)]
 pub enum SigFault {

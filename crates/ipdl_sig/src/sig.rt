@@ -1,6 +1,8 @@
-ghost use Rattle.std.specs.Prelude.{◌≡◌, ◌≢◌, ◌↔◌, ◌+◌, ◌^◌, ◌<◌, [], ◌∷◌, ◌++◌, false, Some, None, length, slice_get, All, AllPairs, IsTrue, IsErrOf, IsSome, IsNone, IfSome, IfNone, IfOk, OnOk, OnErr, IsOkUnless};
+//! The signature of a document: its function symbols, found by number and by name.
+
+ghost use Rattle.std.specs.Prelude.{◌≡◌, ◌≢◌, ◌↔◌, ◌+◌, ◌^◌, ◌<◌, [], false, Some, None, length, slice_get, All, AllPairs, IsTrue, IsSome, IsNone, IfSome, IfNone};
 ghost use Rattle.std.specs.Option.{option_copied};
-ghost use Rattle.ipdl_sig.specs.Symbols.{names_of, has_symbol, symbol_number, IsSymbol, fun_symbol, table_symbol, symbol_refusal, TellsRefusal};
+ghost use Rattle.ipdl_sig.specs.Symbols.{names_of, has_symbol, symbol_number, IsSymbol, fun_symbol, table_symbol, symbol_refusal, IsAdding};
 
 use crate::fault::SigFault;
 use crate::symbol::Symbol;
@@ -10,7 +12,7 @@ use std::alloc::Global;
 use std::marker::Model;
 
 /// Function symbols in the order of their adding, which contracts see as the list of them. A
-/// symbol's number is its place in the list, and no two symbols have one name.
+/// symbol's number is its index in the list, and no two symbols have one name.
 #[derive(Drop)]
 pub struct Sig {
     // Each symbol under a copy of its name.
@@ -74,7 +76,7 @@ impl Sig {
         ensures found { IfSome result (λ n. slice_get (names_of self.now) n ≡ Some name.now) }
     {
         match self.symbols.get_index_of(name) {
-            Some(place) => Some(place as u32),
+            Some(index) => Some(index as u32),
             None => None,
         }
     }
@@ -83,18 +85,7 @@ impl Sig {
     /// number. A refused name is dropped.
     pub fn add_fun(&mut self, name: Name, from: u8, to: u8) -> Result<u32, SigFault>
         requires { length self.old + 1 < 2 ^ 32 }
-
-        ensures number { IfOk result (λ n. n ≡ length self.old) }
-        ensures ok { OnOk result (self.new ≡ self.old ++ fun_symbol name from to ∷ []) }
-        ensures accepted { OnOk result (symbol_refusal self.old (fun_symbol name from to) ≡ None) }
-        ensures new { OnOk result (has_symbol self.old name ≡ false) }
-        ensures formed { OnOk result (IsSymbol (fun_symbol name from to)) }
-        ensures accepts { has_symbol self.old name ≡ false → IsSymbol (fun_symbol name from to)
-            → IsOkUnless result SigFault.Memory }
-
-        ensures repeated { IsErrOf result SigFault.Repeated ↔ IsTrue (has_symbol self.old name) }
-        ensures refused { TellsRefusal result (symbol_refusal self.old (fun_symbol name from to)) }
-        ensures err { OnErr result (self.new ≡ self.old) }
+        ensures { IsAdding self.old (fun_symbol name from to) result self.new }
     {
         self.add(Symbol {
             name,
@@ -104,7 +95,7 @@ impl Sig {
         })
     }
 
-    /// Adds a table, whose value at place i is that of the argument whose bits are the number i.
+    /// Adds a table, whose value at index i is that of the argument whose bits are the number i.
     /// The answer is its number. A refused name and its values are dropped.
     pub fn add_table(
         &mut self,
@@ -114,21 +105,7 @@ impl Sig {
         values: Vec<Bits>,
     ) -> Result<u32, SigFault>
         requires { length self.old + 1 < 2 ^ 32 }
-
-        ensures number { IfOk result (λ n. n ≡ length self.old) }
-        ensures ok { OnOk result (self.new ≡ self.old ++ table_symbol name from to values.items ∷ []) }
-        ensures accepted { OnOk result
-            (symbol_refusal self.old (table_symbol name from to values.items) ≡ None) }
-        ensures new { OnOk result (has_symbol self.old name ≡ false) }
-        ensures formed { OnOk result (IsSymbol (table_symbol name from to values.items)) }
-        ensures accepts { has_symbol self.old name ≡ false
-            → IsSymbol (table_symbol name from to values.items)
-            → IsOkUnless result SigFault.Memory }
-
-        ensures repeated { IsErrOf result SigFault.Repeated ↔ IsTrue (has_symbol self.old name) }
-        ensures refused { TellsRefusal result
-            (symbol_refusal self.old (table_symbol name from to values.items)) }
-        ensures err { OnErr result (self.new ≡ self.old) }
+        ensures { IsAdding self.old (table_symbol name from to values.items) result self.new }
     {
         self.add(Symbol {
             name,
@@ -157,18 +134,7 @@ impl Sig {
     // Adds the symbol. The answer is its number.
     fn add(&mut self, symbol: Symbol) -> Result<u32, SigFault>
         requires { length self.old + 1 < 2 ^ 32 }
-
-        ensures number { IfOk result (λ n. n ≡ length self.old) }
-        ensures ok { OnOk result (self.new ≡ self.old ++ symbol ∷ []) }
-        ensures accepted { OnOk result (symbol_refusal self.old symbol ≡ None) }
-        ensures new { OnOk result (has_symbol self.old symbol.name ≡ false) }
-        ensures formed { OnOk result (IsSymbol symbol) }
-        ensures accepts { has_symbol self.old symbol.name ≡ false → IsSymbol symbol
-            → IsOkUnless result SigFault.Memory }
-
-        ensures repeated { IsErrOf result SigFault.Repeated ↔ IsTrue (has_symbol self.old symbol.name) }
-        ensures refused { TellsRefusal result (symbol_refusal self.old symbol) }
-        ensures err { OnErr result (self.new ≡ self.old) }
+        ensures { IsAdding self.old symbol result self.new }
     {
         if let Some(fault) = self.refusal(&symbol) {
             return Err(fault);

@@ -1,3 +1,5 @@
+//! A function symbol, and what is wrong with one that no signature may have.
+
 ghost use Rattle.std.specs.Prelude.{◌≡◌, ◌≢◌, ◌==◌, Some, not, length, map, find, slice_get, IfNone};
 ghost use Rattle.ipdl_sig.specs.Symbols.{IsSymbol, greatest_argument, first_bad_width, shape_faults};
 
@@ -12,7 +14,7 @@ const GREATEST_TABLE_WIDTH: u8 = 12;
 
 /// A function symbol: its name, the widths of its argument and its result, and of a table all its
 /// values.
-#[derive(Debug, Drop, PartialEq, Eq)]
+#[derive(Drop)]
 pub struct Symbol {
     /// The name, by which terms call the symbol.
     pub name: Name,
@@ -20,7 +22,7 @@ pub struct Symbol {
     pub from: u8,
     /// The width of the result, in bits.
     pub to: u8,
-    /// None for an abstract symbol. Of a table its values: the value at place i is that of the
+    /// None for an abstract symbol. Of a table its values: the value at index i is that of the
     /// argument whose bits are the number i.
     pub values: Option<List<Bits>>,
 }

@@ -1,3 +1,5 @@
+//! Tests of the source and the sink in memory.
+
 use super::*;
 use std::test::Fail;
 

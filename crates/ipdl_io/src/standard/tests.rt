@@ -1,3 +1,5 @@
+//! Tests of the sources and sinks over the readers and writers of std.
+
 use super::*;
 use std::io::{self, ErrorKind};
 use std::test::Fail;

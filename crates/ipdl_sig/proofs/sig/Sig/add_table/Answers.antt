@@ -1,7 +1,7 @@
 use Rattle.std.proofs.Common.{List, Bool, subst}
-use Rattle.ipdl_sig.specs.Symbols.{table_symbol, symbol_refusal, TellsRefusal}
+use Rattle.ipdl_sig.specs.Symbols.{table_symbol, IsAdding}
 use Rattle.ipdl_sig.proofs.sig.Sig.add_table.Goals as goal
 
-pub returns-clause-refused : goal.returns-clause-refused
-returns-clause-refused c =
-    subst (λ (values : List (List Bool)). TellsRefusal c.add.result (symbol_refusal c.args.self.now (table_symbol c.args.name c.args.from c.args.to values))) c.from_vec.ensures c.add.ensures.refused
+pub returns : goal.returns
+returns c =
+    subst (λ (values : List (List Bool)). IsAdding c.args.self.now (table_symbol c.args.name c.args.from c.args.to values) c.add.result c.add.new.self) c.from_vec.ensures c.add.ensures

@@ -1,4 +1,4 @@
--- Which characters the tests pass.
+-- Facts on single characters: which ones pass the tests, and how they are encoded.
 use Rattle.std.proofs.Common.{◌≡◌, ℕ, suc, ◌+◌, ◌*◌, ◌<◌, ◌≤◌, ◌^◌, ◌/◌, ◌%◌, Bool, true, false, ◌||◌, eqb, leb, List, [], ◌∷◌, ◌++◌, length, get_or, ◌⊎◌, inl, inr, ⊎_elim, refl, sym, ap, ◌∙◌, arith}
 use Rattle.std.specs.Char.{encode_utf8}
 use Rattle.std.specs.Fmt.{decimal}
@@ -8,7 +8,7 @@ use Rattle.std.proofs.lemmas.Fmt.{decimal_step}
 use Rattle.std.proofs.lemmas.List.{append-nil}
 use Rattle.std.proofs.lemmas.Str.{inside_one}
 use Rattle.ipdl_tree.specs.Spelling.{is_blank, ends_token, bit_digit, HasNoLineFeed}
-use Rattle.ipdl_tree.specs.Refusals.{is_digit}
+use Rattle.ipdl_tree.specs.Characters.{is_digit}
 use Rattle.ipdl_tree.proofs.Names.{leb-le}
 
 -- one of two tests holds
@@ -19,6 +19,10 @@ or-cases false b e = inr e
 -- numbers that a test finds equal are equal
 pub eqb-same : (m n : ℕ) → eqb m n ≡ true → m ≡ n
 eqb-same m n e = grind (arith, nat_tests)
+
+-- one more than a number is not zero
+pub eqb-suc-zero : (n : ℕ) → eqb (suc n) 0 ≡ false
+eqb-suc-zero n = grind (arith, nat_tests)
 
 -- a blank is ASCII
 pub is_blank-ascii : (c : ℕ) → is_blank c ≡ true → c < 128
@@ -68,14 +72,14 @@ pub HasNoLineFeed-append : (a b : List ℕ) → HasNoLineFeed a → HasNoLineFee
 HasNoLineFeed-append [] b h k = k
 HasNoLineFeed-append (x ∷ a) b h k = (h.0, HasNoLineFeed-append a b h.1 k)
 
-HasNoLineFeed-from_places : (bs : List ℕ) → ((k : ℕ) → k < length bs → get_or bs k 0 ≡ 10 → ⊥) → HasNoLineFeed bs
-HasNoLineFeed-from_places [] h = tt
-HasNoLineFeed-from_places (b ∷ bs) h = (eqb-other b 10 (h 0 (omega arith)), HasNoLineFeed-from_places bs (λ k below e. h (suc k) (omega arith) e))
+HasNoLineFeed-from_bytes : (bs : List ℕ) → ((k : ℕ) → k < length bs → get_or bs k 0 ≡ 10 → ⊥) → HasNoLineFeed bs
+HasNoLineFeed-from_bytes [] h = tt
+HasNoLineFeed-from_bytes (b ∷ bs) h = (eqb-other b 10 (h 0 (omega arith)), HasNoLineFeed-from_bytes bs (λ k below e. h (suc k) (omega arith) e))
 
 -- another character has no line feed in it
 pub HasNoLineFeed-encode : (c : ℕ) → eqb c 10 ≡ false → HasNoLineFeed (encode_utf8 c)
 HasNoLineFeed-encode c other =
-    HasNoLineFeed-from_places (encode_utf8 c) (λ k below e. line_feed (inside_one c [] (encode_utf8 c) k (sym (append-nil (encode_utf8 c))) below (omega (arith, e)) ∙ e))
+    HasNoLineFeed-from_bytes (encode_utf8 c) (λ k below e. line_feed (inside_one c [] (encode_utf8 c) k (sym (append-nil (encode_utf8 c))) below (omega (arith, e)) ∙ e))
   where
     line_feed : c ≡ 10 → ⊥
     line_feed e = let same : eqb c 10 ≡ true = ap (λ x. eqb x 10) e in cc

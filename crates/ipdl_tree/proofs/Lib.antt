@@ -1,3 +1,4 @@
+-- The lemmas of this crate.
 -- Words about characters and names.
 mod Beginnings
 mod Characters
@@ -13,11 +14,11 @@ mod TokenRanges
 mod Writing
 -- Reading on lists against the refusals and the spelling.
 mod Completing
+mod GoingOn
 mod Passing
 mod PassingTokens
 mod PassingTrees
 mod ReadBack
-mod Refusing
 mod Rest
 mod Sound
 mod Soundness

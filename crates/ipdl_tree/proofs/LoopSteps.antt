@@ -8,9 +8,9 @@ use Rattle.std.proofs.lemmas.Str.{scalars-chars, drop_past_char, IsCharBoundary-
 use Rattle.std.proofs.lemmas.Bool.{and_parts}
 use Rattle.ipdl_tree.specs.declared.fault.TreeFault.{TreeFault}
 use Rattle.ipdl_tree.specs.declared.reader.Reader.{Reader}
-use Rattle.ipdl_tree.specs.Refusals.{Cause}
-use Rattle.ipdl_tree.specs.Faults.{Fails}
+use Rattle.ipdl_tree.specs.Causes.{Cause}
 use Rattle.ipdl_tree.specs.Reading.{Reading, IsNameToken, refusal_of, after, step, read_on}
+use Rattle.ipdl_tree.specs.Faults.{Fails}
 use Rattle.ipdl_tree.specs.ReaderViews.{reading, IsTokenAfter}
 use Rattle.ipdl_tree.proofs.ReaderSteps.{IsTokenAfter-from_view, IsNameToken-from_after}
 use Rattle.ipdl_tree.proofs.TextSteps.{End, next_character, take-past_char, within-past_char, read_on-step, Fails-step, unless-Ok}

@@ -8,11 +8,11 @@ use Rattle.std.proofs.lemmas.List.{append_assoc, append-nil, length-append}
 use Rattle.std.proofs.lemmas.Str.{encode_ascii, length-encode, encodes-append, encodes-chars, scalars-chars, IsUtf8-from_is_utf8}
 use Rattle.ipdl_tree.specs.declared.character.Beginning.{Beginning}
 use Rattle.ipdl_tree.specs.declared.character.Beginning.TheVariants.{Blank, Comment}
-use Rattle.ipdl_tree.specs.Trees.{Placed}
-use Rattle.ipdl_tree.specs.Spelling.{ends_token, HasNoLineFeed, IsCommentText, Piece, blank, comment as comment_piece, piece_text, IsPiece, pieces_text, ArePieces, IsGap}
-use Rattle.ipdl_tree.specs.Refusals.{Cause, continues, refusal_within}
+use Rattle.ipdl_tree.specs.Trees.{Located}
+use Rattle.ipdl_tree.specs.Causes.{Cause}
 use Rattle.ipdl_tree.specs.Characters.{beginning_of}
-use Rattle.ipdl_tree.specs.Reading.{Token, no_token, comment, open_name, open_number, open_literal, mode_of, progress, Group, Reading, add_to, tree_of, extended, after_beginning, after, refusal_of_any_beginning, refusal_of, unless, read_on, finish, ◌>>=◌}
+use Rattle.ipdl_tree.specs.Reading.{continues, refusal_within, Token, no_token, comment, open_name, open_number, open_literal, Group, Reading, add_to, tree_of, extended, after_beginning, after, refusal_of_any_beginning, refusal_of, unless, read_on, finish, ◌>>=◌}
+use Rattle.ipdl_tree.specs.Spelling.{ends_token, HasNoLineFeed, IsCommentText, Piece, blank, comment as comment_piece, piece_text, IsPiece, pieces_text, ArePieces, IsGap}
 use Rattle.ipdl_tree.proofs.Characters.{eqb-same, is_blank-ascii}
 use Rattle.ipdl_tree.proofs.Starts.{beginning-blank}
 
@@ -20,15 +20,15 @@ use Rattle.ipdl_tree.proofs.Starts.{beginning-blank}
 pub record Allows (refuse : Reading → ℕ → Option Cause) (most : ℕ) : Type 0 where
   pub others : (r : Reading) (c : ℕ) → refusal_of r c ≡ None → refuse r c ≡ None
   pub opening : (gs : List Group) → length gs < most → refuse (record { token = no_token; groups = gs; complete = None }) 40 ≡ None
-  pub ending : (token : Token) (u : Placed) (gs : List Group) (c : ℕ) → tree_of token ≡ Some u → continues (mode_of token) c ≡ false → ends_token c ≡ true → refuse (record { token = token; groups = gs; complete = None }) c ≡ refuse (add_to u gs None) c
+  pub ending : (token : Token) (u : Located) (gs : List Group) (c : ℕ) → tree_of token ≡ Some u → continues token c ≡ false → ends_token c ≡ true → refuse (record { token = token; groups = gs; complete = None }) c ≡ refuse (add_to u gs None) c
 
 abbrev pub Refuse : Type 0
 Refuse = Reading → ℕ → Option Cause
 
-abbrev pub run : Refuse → Reading → ℕ → List ℕ → Result Placed (ℕ × Cause)
+abbrev pub run : Refuse → Reading → ℕ → List ℕ → Result Located (ℕ × Cause)
 run refuse r offset cs = read_on refuse r offset cs finish
 
-abbrev pub at : Token → List Group → Option Placed → Reading
+abbrev pub at : Token → List Group → Option Located → Reading
 at token gs k = record { token = token; groups = gs; complete = k }
 
 -- one character that is not refused
@@ -86,11 +86,11 @@ Passes-ascii refuse r q o c small none e =
 -- ---- gaps
 
 -- what a character begins is not refused
-pub refusal-beginning : (gs : List Group) (k : Option Placed) (c : ℕ) (b : Beginning) → beginning_of c ≡ b → refusal_of_any_beginning (progress (at no_token gs k)) b ≡ None → refusal_of (at no_token gs k) c ≡ None
-refusal-beginning gs k c b e none = ap (refusal_of_any_beginning (progress (at no_token gs k))) e ∙ none
+pub refusal-beginning : (gs : List Group) (k : Option Located) (c : ℕ) (b : Beginning) → beginning_of c ≡ b → refusal_of_any_beginning (at no_token gs k) b ≡ None → refusal_of (at no_token gs k) c ≡ None
+refusal-beginning gs k c b e none = ap (refusal_of_any_beginning (at no_token gs k)) e ∙ none
 
 -- a character where no token is open
-pub Passes-beginning : (refuse : Refuse) (gs : List Group) (k : Option Placed) (o c : ℕ) (b : Beginning) → c < 128 → beginning_of c ≡ b → refuse (at no_token gs k) c ≡ None → Passes refuse Anything (at no_token gs k) (after_beginning (at no_token gs k) o c b) o (c ∷ [])
+pub Passes-beginning : (refuse : Refuse) (gs : List Group) (k : Option Located) (o c : ℕ) (b : Beginning) → c < 128 → beginning_of c ≡ b → refuse (at no_token gs k) c ≡ None → Passes refuse Anything (at no_token gs k) (after_beginning (at no_token gs k) o c b) o (c ∷ [])
 Passes-beginning refuse gs k o c b small e none =
     Passes-ascii refuse (at no_token gs k) (after_beginning (at no_token gs k) o c b) o c small none (ap (after_beginning (at no_token gs k) o c) e)
 
@@ -118,7 +118,7 @@ no_line_feed c h = go (eqb c 10) refl
         let ten : HasNoLineFeed (10 ∷ []) = subst Q (encode_ascii c (omega (arith, same)) ∙ ap (λ x. x ∷ []) same) h in
         ten.0
 
-comment_on : (refuse : Refuse) (most : ℕ) → Allows refuse most → (cs : List ℕ) (gs : List Group) (k : Option Placed) (o : ℕ) (ds : List ℕ) → HasNoLineFeed (encode_utf8_all cs) → run refuse (at comment gs k) o (cs ++ ds) ≡ run refuse (at comment gs k) (o + length (encode_utf8_all cs)) ds
+comment_on : (refuse : Refuse) (most : ℕ) → Allows refuse most → (cs : List ℕ) (gs : List Group) (k : Option Located) (o : ℕ) (ds : List ℕ) → HasNoLineFeed (encode_utf8_all cs) → run refuse (at comment gs k) o (cs ++ ds) ≡ run refuse (at comment gs k) (o + length (encode_utf8_all cs)) ds
 comment_on refuse most allows [] gs k o ds none = ap (λ n. run refuse (at comment gs k) n ds) (omega arith)
 comment_on refuse most allows (c ∷ cs) gs k o ds none =
     let p = HasNoLineFeed-parts (encode_utf8 c) (encode_utf8_all cs) none in
@@ -128,7 +128,7 @@ comment_on refuse most allows (c ∷ cs) gs k o ds none =
     ∙ ap (λ n. run refuse (at comment gs k) n ds) (omega (arith, length-append (encode_utf8 c) (encode_utf8_all cs), length-encode c))
 
 -- the words of a comment pass
-pub Passes-words : (refuse : Refuse) (most : ℕ) → Allows refuse most → (words : List ℕ) (gs : List Group) (k : Option Placed) (o : ℕ) → IsCommentText words → Passes refuse Anything (at comment gs k) (at comment gs k) o words
+pub Passes-words : (refuse : Refuse) (most : ℕ) → Allows refuse most → (words : List ℕ) (gs : List Group) (k : Option Located) (o : ℕ) → IsCommentText words → Passes refuse Anything (at comment gs k) (at comment gs k) o words
 Passes-words refuse most allows words gs k o is =
     let u = IsUtf8-from_is_utf8 words is.0 in
     let e = encodes-chars words u in
@@ -141,11 +141,11 @@ Passes-words refuse most allows words gs k o is =
     }
 
 -- a semicolon
-pub Passes-semicolon : (refuse : Refuse) (most : ℕ) → Allows refuse most → (gs : List Group) (k : Option Placed) (o : ℕ) → Passes refuse Anything (at no_token gs k) (at comment gs k) o (codes ";")
+pub Passes-semicolon : (refuse : Refuse) (most : ℕ) → Allows refuse most → (gs : List Group) (k : Option Located) (o : ℕ) → Passes refuse Anything (at no_token gs k) (at comment gs k) o (codes ";")
 Passes-semicolon refuse most allows gs k o =
     Passes-beginning refuse gs k o 59 Comment (omega arith) refl (allows.others (at no_token gs k) 59 refl)
 
-Passes-piece : (refuse : Refuse) (most : ℕ) → Allows refuse most → (p : Piece) (gs : List Group) (k : Option Placed) (o : ℕ) → IsPiece p → Passes refuse Anything (at no_token gs k) (at no_token gs k) o (piece_text p)
+Passes-piece : (refuse : Refuse) (most : ℕ) → Allows refuse most → (p : Piece) (gs : List Group) (k : Option Located) (o : ℕ) → IsPiece p → Passes refuse Anything (at no_token gs k) (at no_token gs k) o (piece_text p)
 Passes-piece refuse most allows (blank b) gs k o is =
     let e = beginning-blank b is in
     Passes-beginning refuse gs k o b Blank (is_blank-ascii b is) e (allows.others (at no_token gs k) b (refusal-beginning gs k b Blank e refl))
@@ -154,19 +154,19 @@ Passes-piece refuse most allows (comment_piece words) gs k o is =
     (Passes-then refuse Anything (at no_token gs k) (at comment gs k) (at comment gs k) o (codes ";") words (Passes-semicolon refuse most allows gs k o) (Passes-words refuse most allows words gs k (o + 1) is))
     (Passes-ascii refuse (at comment gs k) (at no_token gs k) (o + length (codes ";" ++ words)) 10 (omega arith) (allows.others (at comment gs k) 10 refl) refl)
 
-Passes-pieces : (refuse : Refuse) (most : ℕ) → Allows refuse most → (ps : List Piece) (gs : List Group) (k : Option Placed) (o : ℕ) → ArePieces ps → Passes refuse Anything (at no_token gs k) (at no_token gs k) o (pieces_text ps)
+Passes-pieces : (refuse : Refuse) (most : ℕ) → Allows refuse most → (ps : List Piece) (gs : List Group) (k : Option Located) (o : ℕ) → ArePieces ps → Passes refuse Anything (at no_token gs k) (at no_token gs k) o (pieces_text ps)
 Passes-pieces refuse most allows [] gs k o are = Passes-nil refuse (at no_token gs k) o
 Passes-pieces refuse most allows (p ∷ ps) gs k o are =
     Passes-then refuse Anything (at no_token gs k) (at no_token gs k) (at no_token gs k) o (piece_text p) (pieces_text ps) (Passes-piece refuse most allows p gs k o are.0) (Passes-pieces refuse most allows ps gs k (o + length (piece_text p)) are.1)
 
 -- a gap passes
-pub Passes-gap : (refuse : Refuse) (most : ℕ) → Allows refuse most → (text : List ℕ) (gs : List Group) (k : Option Placed) (o : ℕ) → IsGap text → Passes refuse Anything (at no_token gs k) (at no_token gs k) o text
+pub Passes-gap : (refuse : Refuse) (most : ℕ) → Allows refuse most → (text : List ℕ) (gs : List Group) (k : Option Located) (o : ℕ) → IsGap text → Passes refuse Anything (at no_token gs k) (at no_token gs k) o text
 Passes-gap refuse most allows text gs k o (pieces, are, e) =
     Passes-text refuse Anything (at no_token gs k) (at no_token gs k) o (pieces_text pieces) text (sym e) (Passes-pieces refuse most allows pieces gs k o are)
 
 -- ---- a token goes on, and ends
 
-token_goes_on : (token : Token) (gs : List Group) (c o : ℕ) → continues (mode_of token) c ≡ true → refusal_within (mode_of token) c ≡ None → (refusal_of (at token gs None) c ≡ None) × (after (at token gs None) o c ≡ at (extended token c) gs None)
+token_goes_on : (token : Token) (gs : List Group) (c o : ℕ) → continues token c ≡ true → refusal_within token c ≡ None → (refusal_of (at token gs None) c ≡ None) × (after (at token gs None) o c ≡ at (extended token c) gs None)
 token_goes_on no_token gs c o goes none = absurd (let x : ⊥ = cc in x)
 token_goes_on comment gs c o goes none = absurd (let x : ⊥ = cc in x)
 token_goes_on (open_name start text) gs c o goes none = (rw goes none, rw goes refl)
@@ -174,7 +174,7 @@ token_goes_on (open_number start value) gs c o goes none = (rw goes none, rw goe
 token_goes_on (open_literal start bits) gs c o goes none = (rw goes none, rw goes refl)
 
 -- one character that goes on with a token
-pub run-token : (refuse : Refuse) (most : ℕ) → Allows refuse most → (token : Token) (gs : List Group) (c o : ℕ) (ds : List ℕ) → continues (mode_of token) c ≡ true → refusal_within (mode_of token) c ≡ None → run refuse (at token gs None) o (c ∷ ds) ≡ run refuse (at (extended token c) gs None) (o + len_utf8 c) ds
+pub run-token : (refuse : Refuse) (most : ℕ) → Allows refuse most → (token : Token) (gs : List Group) (c o : ℕ) (ds : List ℕ) → continues token c ≡ true → refusal_within token c ≡ None → run refuse (at token gs None) o (c ∷ ds) ≡ run refuse (at (extended token c) gs None) (o + len_utf8 c) ds
 run-token refuse most allows token gs c o ds goes none =
     let p = token_goes_on token gs c o goes none in
     run-step refuse (at token gs None) o c ds (allows.others (at token gs None) c p.0) ∙ ap (λ r. run refuse r (o + len_utf8 c) ds) p.1

@@ -12,30 +12,30 @@ use Rattle.std.proofs.lemmas.List.{append_assoc, append-nil, length-append}
 use Rattle.std.proofs.lemmas.Str.{encode_ascii, length-encode, encodes-chars, scalars-chars, IsUtf8-from_is_utf8}
 use Rattle.ipdl_base.specs.Names.{starts_name, continues_name, spells_name, is_name}
 use Rattle.ipdl_tree.specs.declared.character.Beginning.TheVariants.{Number, Literal, Word}
-use Rattle.ipdl_tree.specs.Trees.{Placed, word, number, literal}
+use Rattle.ipdl_tree.specs.Trees.{Located, word, number, literal}
+use Rattle.ipdl_tree.specs.Causes.{Cause, bad_byte, bad_name}
+use Rattle.ipdl_tree.specs.Characters.{is_digit, beginning_of}
+use Rattle.ipdl_tree.specs.Reading.{continues, refusal_within, Token, no_token, open_name, open_number, open_literal, Group, Reading, add_to, tree_of, after_beginning, after, unless, read_on, whole, finish, ◌>>=◌}
 use Rattle.ipdl_tree.specs.Spelling.{ends_token, bit_digit, EndsToken}
-use Rattle.ipdl_tree.specs.Refusals.{Cause, bad_byte, bad_name, is_digit, continues, refusal_within, in_name, in_number, in_literal}
-use Rattle.ipdl_tree.specs.Characters.{beginning_of}
-use Rattle.ipdl_tree.specs.Reading.{Token, no_token, open_name, open_number, open_literal, mode_of, Group, Reading, add_to, tree_of, after_beginning, after, unless, read_on, whole, finish, ◌>>=◌}
 use Rattle.ipdl_tree.proofs.Names.{is_name-parts, le-leb}
 use Rattle.ipdl_tree.proofs.Starts.{name_ends, number_ends, literal_ends, beginning-number, beginning-word}
 use Rattle.ipdl_tree.proofs.Passing.{Refuse, Allows, run, at, Passes, Anything, run-step, run-token, Passes-beginning, Passes-then, refusal-beginning}
 
 -- ---- the end of a token
 
-abbrev finish-of : Reading → ℕ → Result Placed (ℕ × Cause)
+abbrev finish-of : Reading → ℕ → Result Located (ℕ × Cause)
 finish-of r offset = whole r.groups r.complete offset
 
-finish-add_to : (u : Placed) (gs : List Group) (o : ℕ) → finish (add_to u gs None) o ≡ finish-of (add_to u gs None) o
+finish-add_to : (u : Located) (gs : List Group) (o : ℕ) → finish (add_to u gs None) o ≡ finish-of (add_to u gs None) o
 finish-add_to u [] o = refl
 finish-add_to u (g ∷ gs) o = refl
 
-after-add_to : (u : Placed) (gs : List Group) (o c : ℕ) → after (add_to u gs None) o c ≡ after_beginning (add_to u gs None) o c (beginning_of c)
+after-add_to : (u : Located) (gs : List Group) (o c : ℕ) → after (add_to u gs None) o c ≡ after_beginning (add_to u gs None) o c (beginning_of c)
 after-add_to u [] o c = refl
 after-add_to u (g ∷ gs) o c = refl
 
 -- before a byte that ends the token it has ended
-run-ended : (refuse : Refuse) (most : ℕ) → Allows refuse most → (token : Token) (u : Placed) (gs : List Group) (o : ℕ) (ds : List ℕ) → tree_of token ≡ Some u → finish (at token gs None) o ≡ finish-of (add_to u gs None) o → ((c : ℕ) → ends_token c ≡ true → (continues (mode_of token) c ≡ false) × (after (at token gs None) o c ≡ after_beginning (add_to u gs None) o c (beginning_of c))) → EndsToken ds → run refuse (at token gs None) o ds ≡ run refuse (add_to u gs None) o ds
+run-ended : (refuse : Refuse) (most : ℕ) → Allows refuse most → (token : Token) (u : Located) (gs : List Group) (o : ℕ) (ds : List ℕ) → tree_of token ≡ Some u → finish (at token gs None) o ≡ finish-of (add_to u gs None) o → ((c : ℕ) → ends_token c ≡ true → (continues token c ≡ false) × (after (at token gs None) o c ≡ after_beginning (add_to u gs None) o c (beginning_of c))) → EndsToken ds → run refuse (at token gs None) o ds ≡ run refuse (add_to u gs None) o ds
 run-ended refuse most allows token u gs o [] e f goes ends = f ∙ sym (finish-add_to u gs o)
 run-ended refuse most allows token u gs o (d ∷ ds) e f goes ends =
     let p = goes d ends in
@@ -67,8 +67,8 @@ Passes-ended refuse r q s o text h ends = record {
 
 -- ---- names
 
-within-name : (bytes c : ℕ) → bytes + len_utf8 c ≤ 64 → refusal_within (in_name bytes) c ≡ None
-within-name bytes c h = ap (λ b. if b then None else Some bad_name) (le-leb (bytes + len_utf8 c) 64 h)
+within-name : (start : ℕ) (text : List ℕ) (c : ℕ) → length text + len_utf8 c ≤ 64 → refusal_within (open_name start text) c ≡ None
+within-name start text c h = ap (λ b. if b then None else Some bad_name) (le-leb (length text + len_utf8 c) 64 h)
 
 name_on : (refuse : Refuse) (most : ℕ) → Allows refuse most → (cs : List ℕ) (start : ℕ) (text : List ℕ) (gs : List Group) (o : ℕ) (ds : List ℕ) → list_all continues_name cs ≡ true → length (text ++ encode_utf8_all cs) ≤ 64 → run refuse (at (open_name start text) gs None) o (cs ++ ds) ≡ run refuse (at (open_name start (text ++ encode_utf8_all cs)) gs None) (o + length (encode_utf8_all cs)) ds
 name_on refuse most allows [] start text gs o ds all within =
@@ -78,7 +78,7 @@ name_on refuse most allows (c ∷ cs) start text gs o ds all within =
     let lengths = length-append text (encode_utf8 c ++ encode_utf8_all cs) in
     let more = length-append (encode_utf8 c) (encode_utf8_all cs) in
     let assoc = append_assoc text (encode_utf8 c) (encode_utf8_all cs) in
-    run-token refuse most allows (open_name start text) gs c o (cs ++ ds) p.0 (within-name (length text) c (omega (arith, within, lengths, more, length-encode c)))
+    run-token refuse most allows (open_name start text) gs c o (cs ++ ds) p.0 (within-name start text c (omega (arith, within, lengths, more, length-encode c)))
     ∙ name_on refuse most allows cs start (text ++ encode_utf8 c) gs (o + len_utf8 c) ds p.1 (omega (arith, within, ap length assoc))
     ∙ ap₂ (λ t n. run refuse (at (open_name start t) gs None) n ds) assoc (omega (arith, more, length-encode c))
 
@@ -109,8 +109,8 @@ Passes-word refuse most allows name gs o is =
 
 -- ---- numbers
 
-within-number : (value c : ℕ) → 0 < value → 10 * value + (c - 48) < 2 ^ 32 → refusal_within (in_number value) c ≡ None
-within-number value c some below =
+within-number : (start value c : ℕ) → 0 < value → 10 * value + (c - 48) < 2 ^ 32 → refusal_within (open_number start value) c ≡ None
+within-number start value c some below =
     ap₂ (λ a b. if not a && b then None else Some bad_byte) (not_zero value some) (fits (10 * value + (c - 48)) below)
   where
     not_zero : (m : ℕ) → 0 < m → eqb m 0 ≡ false
@@ -126,7 +126,7 @@ Passes-digit : (refuse : Refuse) (most : ℕ) → Allows refuse most → (start 
 Passes-digit refuse most allows start value digit gs o some small below =
     let same : 48 + digit - 48 ≡ digit = omega arith in
     let goes = a_digit digit small in
-    let none = within-number value (48 + digit) some (omega (arith, same, below)) in
+    let none = within-number start value (48 + digit) some (omega (arith, same, below)) in
     record {
       characters = (48 + digit) ∷ [];
       scalars = rw (low_scalar (48 + digit) (omega arith)) refl;
@@ -160,8 +160,8 @@ Passes-number refuse most allows n gs o below =
 
 -- ---- literals
 
-within-literal : (bits c : ℕ) → bits < 128 → refusal_within (in_literal bits) c ≡ None
-within-literal bits c h = ap (λ b. if b then None else Some bad_byte) (fits bits h)
+within-literal : (start : ℕ) (bits : List Bool) (c : ℕ) → length bits < 128 → refusal_within (open_literal start bits) c ≡ None
+within-literal start bits c h = ap (λ b. if b then None else Some bad_byte) (fits (length bits) h)
   where
     fits : (m : ℕ) → m < 128 → ltb m 128 ≡ true
     fits m h = grind (arith, nat_tests)
@@ -186,7 +186,7 @@ Passes-bit refuse most allows start bits b gs o room =
       scalars = rw (low_scalar (bit_digit b) (omega (arith, small))) refl;
       encoded = append-nil (encode_utf8 (bit_digit b)) ∙ encode_ascii (bit_digit b) small;
       runs = λ ds follows.
-          run-token refuse most allows (open_literal start bits) gs (bit_digit b) o ds (a_bit b) (within-literal (length bits) (bit_digit b) room)
+          run-token refuse most allows (open_literal start bits) gs (bit_digit b) o ds (a_bit b) (within-literal start bits (bit_digit b) room)
           ∙ ap₂ (λ x n. run refuse (at (open_literal start (bits ++ x ∷ [])) gs None) n ds) (told_bit b) (omega (arith, length-encode (bit_digit b), ap length (encode_ascii (bit_digit b) small)));
     }
 

@@ -6,14 +6,14 @@ use Rattle.std.specs.Str.{encode_utf8_all, all_scalars}
 use Rattle.std.proofs.lemmas.List.{append_assoc, append-nil, length-append}
 use Rattle.std.proofs.lemmas.Str.{encode_ascii, length-encode, encodes-append, encodes_same, char_from_byte, len_utf8_bounds}
 use Rattle.ipdl_tree.specs.declared.character.Beginning.TheVariants.{Opening, Closing}
-use Rattle.ipdl_tree.specs.Trees.{Placed, word, number, literal, group, Forest, no_trees, tree, place_of, depth_of, greatest_depth}
-use Rattle.ipdl_tree.specs.Spelling.{ends_token, bit_digit, IsGap, IsLastGap, EndsToken, IsApart, Spells, SpellsAll, SpellsSource}
-use Rattle.ipdl_tree.specs.Refusals.{bad_byte}
-use Rattle.ipdl_tree.specs.Views.{forest}
+use Rattle.ipdl_tree.specs.Trees.{Located, word, number, literal, group, Forest, no_trees, tree, offset_of, depth_of, greatest_depth}
+use Rattle.ipdl_tree.specs.Causes.{bad_byte}
 use Rattle.ipdl_tree.specs.Reading.{no_token, comment, Group, Reading, nothing_read, add_to}
+use Rattle.ipdl_tree.specs.Spelling.{ends_token, bit_digit, IsGap, IsLastGap, EndsToken, IsApart, Spells, SpellsAll, SpellsSource}
+use Rattle.ipdl_tree.specs.Views.{forest}
 use Rattle.ipdl_tree.proofs.Characters.{ends_token-ascii}
 use Rattle.ipdl_tree.proofs.Rest.{past-append}
-use Rattle.ipdl_tree.proofs.Sound.{eqb-suc-zero}
+use Rattle.ipdl_tree.proofs.Characters.{eqb-suc-zero}
 use Rattle.ipdl_tree.proofs.Passing.{Refuse, Allows, run, at, Passes, Anything, Passes-beginning, Passes-append, Passes-then, Passes-text, Passes-gap, Passes-semicolon, Passes-words, all_scalars-append}
 use Rattle.ipdl_tree.proofs.PassingTokens.{Passes-word, Passes-number, Passes-literal}
 
@@ -34,7 +34,7 @@ EndsToken-characters [] ds rest e h k = k
 EndsToken-characters (c ∷ cs) ds rest e h k =
     let P : List ℕ → Type 0 = EndsToken in ends_token-character c (encode_utf8_all cs) (subst P (sym e) h)
 
-IsApart-characters : (t : Placed) (cs ds rest : List ℕ) → encode_utf8_all cs ≡ rest → IsApart t rest → IsApart t ds → IsApart t (cs ++ ds)
+IsApart-characters : (t : Located) (cs ds rest : List ℕ) → encode_utf8_all cs ≡ rest → IsApart t rest → IsApart t ds → IsApart t (cs ++ ds)
 IsApart-characters (word pos name) cs ds rest e h k = EndsToken-characters cs ds rest e h k
 IsApart-characters (number pos n) cs ds rest e h k = EndsToken-characters cs ds rest e h k
 IsApart-characters (literal pos bits) cs ds rest e h k = EndsToken-characters cs ds rest e h k
@@ -44,10 +44,10 @@ IsApart-characters (group pos ts) cs ds rest e h k = tt
 abbrev Closes : List ℕ → Type 0
 Closes ds = (rest : List ℕ) × (ds ≡ 41 ∷ rest)
 
-IsApart-closes : (t : Placed) (ds : List ℕ) → Closes ds → IsApart t ds
+IsApart-closes : (t : Located) (ds : List ℕ) → Closes ds → IsApart t ds
 IsApart-closes t ds (rest, e) = let P : List ℕ → Type 0 = IsApart t in subst P (sym e) (go t)
   where
-    go : (t : Placed) → IsApart t (41 ∷ rest)
+    go : (t : Located) → IsApart t (41 ∷ rest)
     go (word pos name) = refl
     go (number pos n) = refl
     go (literal pos bits) = refl
@@ -68,7 +68,7 @@ Passes-narrower refuse D E r q o text may h = record {
 
 -- ---- trees
 
-abbrev list_of : Forest → List Placed
+abbrev list_of : Forest → List Located
 list_of no_trees = []
 list_of (tree t ts) = t ∷ list_of ts
 
@@ -76,22 +76,22 @@ forest-list_of : (ts : Forest) → forest (list_of ts) ≡ ts
 forest-list_of no_trees = refl
 forest-list_of (tree t ts) = ap (tree t) (forest-list_of ts)
 
-abbrev grown : Group → List Placed → Group
-grown g more = record { place = g.place; parts = g.parts ++ more }
+abbrev grown : Group → List Located → Group
+grown g more = record { start = g.start; parts = g.parts ++ more }
 
-Passes-opening : (refuse : Refuse) (most : ℕ) → Allows refuse most → (gs : List Group) (o : ℕ) → length gs < most → Passes refuse Anything (at no_token gs None) (at no_token (record { place = o; parts = [] } ∷ gs) None) o (codes "(")
+Passes-opening : (refuse : Refuse) (most : ℕ) → Allows refuse most → (gs : List Group) (o : ℕ) → length gs < most → Passes refuse Anything (at no_token gs None) (at no_token (record { start = o; parts = [] } ∷ gs) None) o (codes "(")
 Passes-opening refuse most allows gs o room = Passes-beginning refuse gs None o 40 Opening (omega arith) refl (allows.opening gs room)
 
-Passes-closing : (refuse : Refuse) (most : ℕ) → Allows refuse most → (g : Group) (gs : List Group) (o : ℕ) → Passes refuse Anything (at no_token (g ∷ gs) None) (add_to (group g.place (forest g.parts)) gs None) o (codes ")")
+Passes-closing : (refuse : Refuse) (most : ℕ) → Allows refuse most → (g : Group) (gs : List Group) (o : ℕ) → Passes refuse Anything (at no_token (g ∷ gs) None) (add_to (group g.start (forest g.parts)) gs None) o (codes ")")
 Passes-closing refuse most allows g gs o =
     Passes-beginning refuse (g ∷ gs) None o 41 Closing (omega arith) refl
     (allows.others (at no_token (g ∷ gs) None) 41 (ap (λ b. if b then Some bad_byte else None) (eqb-suc-zero (length gs))))
 
 -- a group, once its parts pass
-Passes-group : (refuse : Refuse) (most : ℕ) → Allows refuse most → (pos : ℕ) (ts : Forest) (inner : List ℕ) (gs : List Group) → length gs < most → Passes refuse Closes (at no_token (record { place = pos; parts = [] } ∷ gs) None) (at no_token (record { place = pos; parts = list_of ts } ∷ gs) None) (suc pos) inner → Passes refuse Anything (at no_token gs None) (add_to (group pos ts) gs None) pos (codes "(" ++ inner ++ codes ")")
+Passes-group : (refuse : Refuse) (most : ℕ) → Allows refuse most → (pos : ℕ) (ts : Forest) (inner : List ℕ) (gs : List Group) → length gs < most → Passes refuse Closes (at no_token (record { start = pos; parts = [] } ∷ gs) None) (at no_token (record { start = pos; parts = list_of ts } ∷ gs) None) (suc pos) inner → Passes refuse Anything (at no_token gs None) (add_to (group pos ts) gs None) pos (codes "(" ++ inner ++ codes ")")
 Passes-group refuse most allows pos ts inner gs room parts =
-    let opened = at no_token (record { place = pos; parts = [] } ∷ gs) None in
-    let filled : Group = record { place = pos; parts = list_of ts } in
+    let opened = at no_token (record { start = pos; parts = [] } ∷ gs) None in
+    let filled : Group = record { start = pos; parts = list_of ts } in
     let n : suc pos ≡ pos + 1 = omega arith in
     let P : ℕ → Type 0 = λ m. Passes refuse Closes opened (at no_token (filled ∷ gs) None) m inner in
     let close = Passes-closing refuse most allows filled gs (pos + length (codes "(" ++ inner)) in
@@ -102,8 +102,8 @@ Passes-group refuse most allows pos ts inner gs room parts =
     close (λ ds follows. closing-characters close.characters ds close.encoded))
 
 -- a gap, a tree and the rest of a group
-Passes-more : (refuse : Refuse) (most : ℕ) → Allows refuse most → (t : Placed) (ts : Forest) (o : ℕ) (gap first rest text : List ℕ) (g : Group) (gs : List Group) → IsGap gap → place_of t ≡ o + length gap → IsApart t rest → text ≡ gap ++ first ++ rest
-    → Passes refuse (IsApart t) (at no_token (g ∷ gs) None) (at no_token (grown g (t ∷ []) ∷ gs) None) (place_of t) first
+Passes-more : (refuse : Refuse) (most : ℕ) → Allows refuse most → (t : Located) (ts : Forest) (o : ℕ) (gap first rest text : List ℕ) (g : Group) (gs : List Group) → IsGap gap → offset_of t ≡ o + length gap → IsApart t rest → text ≡ gap ++ first ++ rest
+    → Passes refuse (IsApart t) (at no_token (g ∷ gs) None) (at no_token (grown g (t ∷ []) ∷ gs) None) (offset_of t) first
     → Passes refuse Closes (at no_token (grown g (t ∷ []) ∷ gs) None) (at no_token (grown (grown g (t ∷ [])) (list_of ts) ∷ gs) None) (o + length gap + length first) rest
     → Passes refuse Closes (at no_token (g ∷ gs) None) (at no_token (grown g (t ∷ list_of ts) ∷ gs) None) o text
 Passes-more refuse most allows t ts o gap first rest text g gs is_gap place apart e one others =
@@ -113,7 +113,7 @@ Passes-more refuse most allows t ts o gap first rest text g gs is_gap place apar
     let P : ℕ → Type 0 = λ m. Passes refuse (IsApart t) r q m first in
     let Q : ℕ → Type 0 = λ m. Passes refuse Closes q s m rest in
     let later = subst Q (past-append o gap first) others in
-    let R : List Placed → Type 0 = λ ps. Passes refuse Closes r (at no_token (record { place = g.place; parts = ps } ∷ gs) None) o text in
+    let R : List Located → Type 0 = λ ps. Passes refuse Closes r (at no_token (record { start = g.start; parts = ps } ∷ gs) None) o text in
     subst R (append_assoc g.parts (t ∷ []) (list_of ts))
     (Passes-text refuse Closes r s o (gap ++ first ++ rest) text (sym e)
     (Passes-append refuse (IsApart t) Closes r q s o (gap ++ first) rest
@@ -123,11 +123,11 @@ Passes-more refuse most allows t ts o gap first rest text g gs is_gap place apar
 Passes-last : (refuse : Refuse) (most : ℕ) → Allows refuse most → (o : ℕ) (text : List ℕ) (g : Group) (gs : List Group) → IsGap text → Passes refuse Closes (at no_token (g ∷ gs) None) (at no_token (grown g [] ∷ gs) None) o text
 Passes-last refuse most allows o text g gs is =
     let r = at no_token (g ∷ gs) None in
-    let R : List Placed → Type 0 = λ ps. Passes refuse Closes r (at no_token (record { place = g.place; parts = ps } ∷ gs) None) o text in
+    let R : List Located → Type 0 = λ ps. Passes refuse Closes r (at no_token (record { start = g.start; parts = ps } ∷ gs) None) o text in
     subst R (sym (append-nil g.parts)) (Passes-narrower refuse Anything Closes r r o text (λ ds follows. tt) (Passes-gap refuse most allows text (g ∷ gs) None o is))
 
 mutual
-  pub Passes-tree : (t : Placed) (refuse : Refuse) (most : ℕ) → Allows refuse most → (text : List ℕ) (gs : List Group) → Spells t text → depth_of t + length gs ≤ most → Passes refuse (IsApart t) (at no_token gs None) (add_to t gs None) (place_of t) text
+  pub Passes-tree : (t : Located) (refuse : Refuse) (most : ℕ) → Allows refuse most → (text : List ℕ) (gs : List Group) → Spells t text → depth_of t + length gs ≤ most → Passes refuse (IsApart t) (at no_token gs None) (add_to t gs None) (offset_of t) text
   Passes-tree (word pos name) refuse most allows text gs (is, e) depth =
       Passes-text refuse EndsToken (at no_token gs None) (add_to (word pos name) gs None) pos name text (sym e) (Passes-word refuse most allows name gs pos is)
   Passes-tree (number pos n) refuse most allows text gs (below, e) depth =
@@ -137,7 +137,7 @@ mutual
   Passes-tree (group pos ts) refuse most allows text gs (inner, spells, e) depth =
       Passes-text refuse Anything (at no_token gs None) (add_to (group pos ts) gs None) pos (codes "(" ++ inner ++ codes ")") text (sym e)
       (Passes-group refuse most allows pos ts inner gs (omega (arith, depth))
-      (Passes-trees ts refuse most allows (suc pos) inner (record { place = pos; parts = [] }) gs spells (omega (arith, depth))))
+      (Passes-trees ts refuse most allows (suc pos) inner (record { start = pos; parts = [] }) gs spells (omega (arith, depth))))
 
   pub Passes-trees : (ts : Forest) (refuse : Refuse) (most : ℕ) → Allows refuse most → (o : ℕ) (text : List ℕ) (g : Group) (gs : List Group) → SpellsAll ts o text → greatest_depth ts + suc (length gs) ≤ most → Passes refuse Closes (at no_token (g ∷ gs) None) (at no_token (grown g (list_of ts) ∷ gs) None) o text
   Passes-trees no_trees refuse most allows o text g gs spells depth = Passes-last refuse most allows o text g gs spells
@@ -148,17 +148,17 @@ mutual
 
 -- ---- a whole source
 
-IsApart-nil : (t : Placed) → IsApart t []
+IsApart-nil : (t : Located) → IsApart t []
 IsApart-nil (word pos name) = tt
 IsApart-nil (number pos n) = tt
 IsApart-nil (literal pos bits) = tt
 IsApart-nil (group pos ts) = tt
 
 -- the characters of the end of a source
-abbrev Ends : Refuse → Placed → ℕ → List ℕ → Type 0
+abbrev Ends : Refuse → Located → ℕ → List ℕ → Type 0
 Ends refuse t o text = (cs : List ℕ) × (all_scalars cs ≡ true) × (encode_utf8_all cs ≡ text) × (run refuse (at no_token [] (Some t)) o cs ≡ Ok t)
 
-ends-last : (refuse : Refuse) (most : ℕ) → Allows refuse most → (t : Placed) (o : ℕ) (text : List ℕ) → IsLastGap text → Ends refuse t o text
+ends-last : (refuse : Refuse) (most : ℕ) → Allows refuse most → (t : Located) (o : ℕ) (text : List ℕ) → IsLastGap text → Ends refuse t o text
 ends-last refuse most allows t o text (inl is) =
     let p = Passes-gap refuse most allows text [] (Some t) o is in
     (p.characters, p.scalars, p.encoded, ap (run refuse (at no_token [] (Some t)) o) (sym (append-nil p.characters)) ∙ p.runs [] tt)
@@ -173,7 +173,7 @@ ends-last refuse most allows t o text (inr (gap, cut, is, words, e)) =
     (p.characters, p.scalars, p.encoded, ap (run refuse r o) (sym (append-nil p.characters)) ∙ p.runs [] tt)
 
 -- what spells a tree is read as that tree
-pub run-spelled : (refuse : Refuse) (most : ℕ) → Allows refuse most → (t : Placed) (source : List ℕ) → SpellsSource t source → depth_of t ≤ most → (cs : List ℕ) × (all_scalars cs ≡ true) × (encode_utf8_all cs ≡ source) × (run refuse nothing_read 0 cs ≡ Ok t)
+pub run-spelled : (refuse : Refuse) (most : ℕ) → Allows refuse most → (t : Located) (source : List ℕ) → SpellsSource t source → depth_of t ≤ most → (cs : List ℕ) × (all_scalars cs ≡ true) × (encode_utf8_all cs ≡ source) × (run refuse nothing_read 0 cs ≡ Ok t)
 run-spelled refuse most allows t source (gap, text, rest, is_gap, spells, place, apart, last, e) depth =
     let end = ends-last refuse most allows t (0 + length (gap ++ text)) rest last in
     let P : ℕ → Type 0 = λ m. Passes refuse (IsApart t) nothing_read (at no_token [] (Some t)) m text in

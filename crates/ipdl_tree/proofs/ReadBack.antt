@@ -1,38 +1,38 @@
--- The spelling that is written spells the tree, but for the places.
+-- The spelling that is written spells the tree, but for the offsets.
 use Rattle.std.proofs.Common.{◌≡◌, ℕ, suc, ◌+◌, max, List, [], ◌∷◌, length, codes, refl, sym, ap, ap₂, inl, ◌∙◌, arith}
 use Rattle.std.proofs.lemmas.List.{append-nil}
-use Rattle.ipdl_tree.specs.Trees.{Placed, word, number, literal, group, Forest, no_trees, tree, place_of, without_places, all_without_places, depth_of, greatest_depth}
+use Rattle.ipdl_tree.specs.Trees.{Located, word, number, literal, group, Forest, no_trees, tree, offset_of, without_offsets, all_without_offsets, depth_of, greatest_depth}
 use Rattle.ipdl_tree.specs.Spelling.{blank, IsGap, EndsToken, IsApart, Spells, SpellsAll, SpellsSource, tree_text, forest_text, more_text}
 use Rattle.ipdl_tree.specs.WellFormed.{IsWellFormed, AreWellFormed}
 use Rattle.ipdl_tree.proofs.Rest.{IsGap-nil}
 
--- the tree with the places of its spelling, which begins at an offset
+-- the tree with the offsets of its spelling, which begins at an offset
 abbrev mutual
-  pub placed_at : ℕ → Placed → Placed
-  placed_at o (word pos name) = word o name
-  placed_at o (number pos n) = number o n
-  placed_at o (literal pos bits) = literal o bits
-  placed_at o (group pos ts) = group o (forest_at (suc o) ts)
+  pub located_at : ℕ → Located → Located
+  located_at o (word pos name) = word o name
+  located_at o (number pos n) = number o n
+  located_at o (literal pos bits) = literal o bits
+  located_at o (group pos ts) = group o (forest_at (suc o) ts)
 
   pub forest_at : ℕ → Forest → Forest
   forest_at o no_trees = no_trees
-  forest_at o (tree t ts) = tree (placed_at o t) (more_at (o + 0 + length (tree_text t)) ts)
+  forest_at o (tree t ts) = tree (located_at o t) (more_at (o + 0 + length (tree_text t)) ts)
 
   pub more_at : ℕ → Forest → Forest
   more_at o no_trees = no_trees
-  more_at o (tree t ts) = tree (placed_at (o + 1) t) (more_at (o + 1 + length (tree_text t)) ts)
+  more_at o (tree t ts) = tree (located_at (o + 1) t) (more_at (o + 1 + length (tree_text t)) ts)
 
-place_of-placed_at : (o : ℕ) (t : Placed) → place_of (placed_at o t) ≡ o
-place_of-placed_at o (word pos name) = refl
-place_of-placed_at o (number pos n) = refl
-place_of-placed_at o (literal pos bits) = refl
-place_of-placed_at o (group pos ts) = refl
+offset_of-located_at : (o : ℕ) (t : Located) → offset_of (located_at o t) ≡ o
+offset_of-located_at o (word pos name) = refl
+offset_of-located_at o (number pos n) = refl
+offset_of-located_at o (literal pos bits) = refl
+offset_of-located_at o (group pos ts) = refl
 
 EndsToken-more : (ts : Forest) → EndsToken (more_text ts)
 EndsToken-more no_trees = tt
 EndsToken-more (tree t ts) = refl
 
-IsApart-from_ends : (t : Placed) (rest : List ℕ) → EndsToken rest → IsApart t rest
+IsApart-from_ends : (t : Located) (rest : List ℕ) → EndsToken rest → IsApart t rest
 IsApart-from_ends (word pos name) rest h = h
 IsApart-from_ends (number pos n) rest h = h
 IsApart-from_ends (literal pos bits) rest h = h
@@ -42,7 +42,7 @@ one_blank : IsGap (codes " ")
 one_blank = (blank 32 ∷ [], (refl, tt), refl)
 
 mutual
-  pub Spells-tree_text : (t : Placed) (o : ℕ) → IsWellFormed t → Spells (placed_at o t) (tree_text t)
+  pub Spells-tree_text : (t : Located) (o : ℕ) → IsWellFormed t → Spells (located_at o t) (tree_text t)
   Spells-tree_text (word pos name) o h = (h, refl)
   Spells-tree_text (number pos n) o h = (h, refl)
   Spells-tree_text (literal pos bits) o h = (h, refl)
@@ -56,8 +56,8 @@ mutual
     more_text ts,
     IsGap-nil,
     Spells-tree_text t o h.0,
-    place_of-placed_at o t ∙ omega arith,
-    IsApart-from_ends (placed_at o t) (more_text ts) (EndsToken-more ts),
+    offset_of-located_at o t ∙ omega arith,
+    IsApart-from_ends (located_at o t) (more_text ts) (EndsToken-more ts),
     SpellsAll-more_text ts (o + 0 + length (tree_text t)) h.1,
     refl,
   )
@@ -70,46 +70,46 @@ mutual
     more_text ts,
     one_blank,
     Spells-tree_text t (o + 1) h.0,
-    place_of-placed_at (o + 1) t,
-    IsApart-from_ends (placed_at (o + 1) t) (more_text ts) (EndsToken-more ts),
+    offset_of-located_at (o + 1) t,
+    IsApart-from_ends (located_at (o + 1) t) (more_text ts) (EndsToken-more ts),
     SpellsAll-more_text ts (o + 1 + length (tree_text t)) h.1,
     refl,
   )
 
 mutual
-  pub without_places-placed_at : (t : Placed) (o : ℕ) → without_places (placed_at o t) ≡ without_places t
-  without_places-placed_at (word pos name) o = refl
-  without_places-placed_at (number pos n) o = refl
-  without_places-placed_at (literal pos bits) o = refl
-  without_places-placed_at (group pos ts) o = ap (group 0) (all_without_places-forest_at ts (suc o))
+  pub without_offsets-located_at : (t : Located) (o : ℕ) → without_offsets (located_at o t) ≡ without_offsets t
+  without_offsets-located_at (word pos name) o = refl
+  without_offsets-located_at (number pos n) o = refl
+  without_offsets-located_at (literal pos bits) o = refl
+  without_offsets-located_at (group pos ts) o = ap (group 0) (all_without_offsets-forest_at ts (suc o))
 
-  all_without_places-forest_at : (ts : Forest) (o : ℕ) → all_without_places (forest_at o ts) ≡ all_without_places ts
-  all_without_places-forest_at no_trees o = refl
-  all_without_places-forest_at (tree t ts) o = ap₂ tree (without_places-placed_at t o) (all_without_places-more_at ts (o + 0 + length (tree_text t)))
+  all_without_offsets-forest_at : (ts : Forest) (o : ℕ) → all_without_offsets (forest_at o ts) ≡ all_without_offsets ts
+  all_without_offsets-forest_at no_trees o = refl
+  all_without_offsets-forest_at (tree t ts) o = ap₂ tree (without_offsets-located_at t o) (all_without_offsets-more_at ts (o + 0 + length (tree_text t)))
 
-  all_without_places-more_at : (ts : Forest) (o : ℕ) → all_without_places (more_at o ts) ≡ all_without_places ts
-  all_without_places-more_at no_trees o = refl
-  all_without_places-more_at (tree t ts) o = ap₂ tree (without_places-placed_at t (o + 1)) (all_without_places-more_at ts (o + 1 + length (tree_text t)))
+  all_without_offsets-more_at : (ts : Forest) (o : ℕ) → all_without_offsets (more_at o ts) ≡ all_without_offsets ts
+  all_without_offsets-more_at no_trees o = refl
+  all_without_offsets-more_at (tree t ts) o = ap₂ tree (without_offsets-located_at t (o + 1)) (all_without_offsets-more_at ts (o + 1 + length (tree_text t)))
 
 mutual
-  depth_of-without_places : (t : Placed) → depth_of (without_places t) ≡ depth_of t
-  depth_of-without_places (word pos name) = refl
-  depth_of-without_places (number pos n) = refl
-  depth_of-without_places (literal pos bits) = refl
-  depth_of-without_places (group pos ts) = ap suc (greatest_depth-without_places ts)
+  depth_of-without_offsets : (t : Located) → depth_of (without_offsets t) ≡ depth_of t
+  depth_of-without_offsets (word pos name) = refl
+  depth_of-without_offsets (number pos n) = refl
+  depth_of-without_offsets (literal pos bits) = refl
+  depth_of-without_offsets (group pos ts) = ap suc (greatest_depth-without_offsets ts)
 
-  greatest_depth-without_places : (ts : Forest) → greatest_depth (all_without_places ts) ≡ greatest_depth ts
-  greatest_depth-without_places no_trees = refl
-  greatest_depth-without_places (tree t ts) = ap₂ max (depth_of-without_places t) (greatest_depth-without_places ts)
+  greatest_depth-without_offsets : (ts : Forest) → greatest_depth (all_without_offsets ts) ≡ greatest_depth ts
+  greatest_depth-without_offsets no_trees = refl
+  greatest_depth-without_offsets (tree t ts) = ap₂ max (depth_of-without_offsets t) (greatest_depth-without_offsets ts)
 
--- trees that are equal without places are as deep
-pub depth_of-same : (t u : Placed) → without_places t ≡ without_places u → depth_of t ≡ depth_of u
-depth_of-same t u e = sym (depth_of-without_places t) ∙ ap depth_of e ∙ depth_of-without_places u
+-- trees that are equal without offsets are as deep
+pub depth_of-same : (t u : Located) → without_offsets t ≡ without_offsets u → depth_of t ≡ depth_of u
+depth_of-same t u e = sym (depth_of-without_offsets t) ∙ ap depth_of e ∙ depth_of-without_offsets u
 
 -- the spelling that is written
-pub SpellsSource-tree_text : (t : Placed) → IsWellFormed t → (u : Placed) × SpellsSource u (tree_text t) × (without_places u ≡ without_places t)
+pub SpellsSource-tree_text : (t : Located) → IsWellFormed t → (u : Located) × SpellsSource u (tree_text t) × (without_offsets u ≡ without_offsets t)
 SpellsSource-tree_text t h = (
-  placed_at 0 t,
-  ([], tree_text t, [], IsGap-nil, Spells-tree_text t 0 h, place_of-placed_at 0 t, IsApart-from_ends (placed_at 0 t) [] tt, inl IsGap-nil, sym (append-nil (tree_text t))),
-  without_places-placed_at t 0,
+  located_at 0 t,
+  ([], tree_text t, [], IsGap-nil, Spells-tree_text t 0 h, offset_of-located_at 0 t, IsApart-from_ends (located_at 0 t) [] tt, inl IsGap-nil, sym (append-nil (tree_text t))),
+  without_offsets-located_at t 0,
 )

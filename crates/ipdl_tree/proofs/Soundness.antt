@@ -1,4 +1,4 @@
--- Reading is sound: the tree that it gives is spelled by the source.
+-- Reading is sound: a source that is read spells the tree that reading gives.
 use Rattle.std.proofs.Common.{◌≡◌, ℕ, ◌+◌, ◌-◌, ◌<◌, ◌≤◌, ◌^◌, Bool, true, false, ◌||◌, if◌then◌else◌, eqb, List, [], ◌∷◌, ◌++◌, length, Option, Some, None, Ok, IsTrue, inl, inr, refl, sym, ap, ap₂, ◌∙◌, subst, arith}
 use Rattle.std.specs.Prelude.{◌==◌}
 use Rattle.std.specs.Char.{len_utf8, encode_utf8, IsScalar}
@@ -8,11 +8,11 @@ use Rattle.std.proofs.lemmas.Bool.{and_parts}
 use Rattle.std.proofs.lemmas.List.{append_assoc, append-nil, length-append}
 use Rattle.std.proofs.lemmas.Str.{length-encode, IsUtf8-encode, IsUtf8-append, IsUtf8-nil, IsUtf8-from_is_utf8, is_utf8-from_IsUtf8}
 use Rattle.ipdl_base.specs.Names.{continues_name, is_name}
-use Rattle.ipdl_tree.specs.Trees.{Placed, word, number, literal}
+use Rattle.ipdl_tree.specs.Trees.{Located, word, number, literal}
+use Rattle.ipdl_tree.specs.Causes.{Cause, bad_byte}
+use Rattle.ipdl_tree.specs.Characters.{is_digit, beginning_of}
+use Rattle.ipdl_tree.specs.Reading.{continues, refusal_within, Token, no_token, comment, open_name, open_number, open_literal, Group, Reading, add_to, extended, after_beginning, after, refusal_of_any_beginning, refusal_of, unless, read_on, finish, IsNameToken, ◌>>=◌}
 use Rattle.ipdl_tree.specs.Spelling.{ends_token, IsCommentText, EndsToken}
-use Rattle.ipdl_tree.specs.Refusals.{Cause, bad_byte, is_digit, continues, refusal_within}
-use Rattle.ipdl_tree.specs.Characters.{beginning_of}
-use Rattle.ipdl_tree.specs.Reading.{Token, no_token, comment, open_name, open_number, open_literal, mode_of, progress, Group, Reading, add_to, extended, after_beginning, after, refusal_of_any_beginning, refusal_of, unless, read_on, finish, IsNameToken, ◌>>=◌}
 use Rattle.ipdl_tree.proofs.Characters.{eqb-same, ends_token-ascii, is_digit-range, bit_digit-eqb, bit-ascii, decimal-push, HasNoLineFeed-append, HasNoLineFeed-encode}
 use Rattle.ipdl_tree.proofs.Rest.{FollowsTree, FollowsGap, FollowsComment, CompletesToken, FollowsToken, FollowsState, FollowsReading, IsGap-nil}
 use Rattle.ipdl_tree.proofs.TokenNames.{IsNameToken-after}
@@ -21,7 +21,7 @@ use Rattle.ipdl_tree.proofs.Completing.{encode-front, between}
 
 -- ---- a character that goes on with a token
 
-goes_on : (token : Token) (c : ℕ) (tail : List ℕ) (u : Placed) → continues (mode_of token) c ≡ true → refusal_within (mode_of token) c ≡ None → CompletesToken (extended token c) tail u → CompletesToken token (encode_utf8 c ++ tail) u
+goes_on : (token : Token) (c : ℕ) (tail : List ℕ) (u : Located) → continues token c ≡ true → refusal_within token c ≡ None → CompletesToken (extended token c) tail u → CompletesToken token (encode_utf8 c ++ tail) u
 goes_on no_token c tail u goes none h = h
 goes_on comment c tail u goes none h = h
 goes_on (open_name start text) c tail u goes none (name, same) =
@@ -30,7 +30,7 @@ goes_on (open_name start text) c tail u goes none (name, same) =
     subst P e (name, same)
 goes_on (open_number start value) c tail u goes none (n, below, digits, same) =
     let range = is_digit-range c goes in
-    let fits = number_goes_on value c none in
+    let fits = number_goes_on start value c none in
     let one : encode_utf8 c ++ tail ≡ c ∷ tail = encode-front c tail (omega (arith, range.1)) in
     let digit : 48 + (c - 48) ≡ c = omega (arith, range.0) in (
       n,
@@ -53,7 +53,7 @@ goes_on (open_literal start bits) c tail u goes none (more, within, digits, same
     ))
 
 -- the rest of a token and what follows it, one character before
-goes_on_before : (token : Token) (gs : List Group) (c o : ℕ) (t : Placed) (text : List ℕ) → continues (mode_of token) c ≡ true → refusal_within (mode_of token) c ≡ None → FollowsToken (extended token c) gs t (o + len_utf8 c) text → FollowsToken token gs t o (encode_utf8 c ++ text)
+goes_on_before : (token : Token) (gs : List Group) (c o : ℕ) (t : Located) (text : List ℕ) → continues token c ≡ true → refusal_within token c ≡ None → FollowsToken (extended token c) gs t (o + len_utf8 c) text → FollowsToken token gs t o (encode_utf8 c ++ text)
 goes_on_before token gs c o t text goes none (tail, rest, u, completes, ends, follows, e) =
     let n : o + len_utf8 c + length tail ≡ o + length (encode_utf8 c ++ tail) = omega (arith, length-append (encode_utf8 c) tail, length-encode c) in
     let P : ℕ → Type 0 = λ m. FollowsTree gs t u m rest in (
@@ -68,11 +68,11 @@ goes_on_before token gs c o t text goes none (tail, rest, u, completes, ends, fo
 
 -- ---- a token ends
 
-FollowsTree-gap : (u : Placed) (gs : List Group) (k : Option Placed) (t : Placed) (o : ℕ) (text : List ℕ) → FollowsGap (add_to u gs k).groups (add_to u gs k).complete t o text → FollowsTree gs t u o text
+FollowsTree-gap : (u : Located) (gs : List Group) (k : Option Located) (t : Located) (o : ℕ) (text : List ℕ) → FollowsGap (add_to u gs k).groups (add_to u gs k).complete t o text → FollowsTree gs t u o text
 FollowsTree-gap u [] k t o text h = h
 FollowsTree-gap u (g ∷ gs) k t o text h = h
 
-ends_before : (token : Token) (u : Placed) (gs : List Group) (k : Option Placed) (c o : ℕ) (t : Placed) (text : List ℕ) → CompletesToken token [] u → ends_token c ≡ true → FollowsGap (add_to u gs k).groups (add_to u gs k).complete t o (encode_utf8 c ++ text) → FollowsToken token gs t o (encode_utf8 c ++ text)
+ends_before : (token : Token) (u : Located) (gs : List Group) (k : Option Located) (c o : ℕ) (t : Located) (text : List ℕ) → CompletesToken token [] u → ends_token c ≡ true → FollowsGap (add_to u gs k).groups (add_to u gs k).complete t o (encode_utf8 c ++ text) → FollowsToken token gs t o (encode_utf8 c ++ text)
 ends_before token u gs k c o t text completes ends h =
     let P : List ℕ → Type 0 = EndsToken in
     let Q : ℕ → Type 0 = λ m. FollowsTree gs t u m (encode_utf8 c ++ text) in
@@ -87,8 +87,8 @@ ends_before token u gs k c o t text completes ends h =
     )
 
 -- a character where a token is open
-in_token : (goes ends : Bool) (token : Token) (u : Placed) (gs : List Group) (k : Option Placed) (c o : ℕ) (t : Placed) (text : List ℕ) → continues (mode_of token) c ≡ goes → ends_token c ≡ ends → CompletesToken token [] u → (FollowsState (extended token c) gs k t (o + len_utf8 c) text → FollowsToken (extended token c) gs t (o + len_utf8 c) text)
-    → (if goes then refusal_within (mode_of token) c else (if ends then refusal_of_any_beginning (progress (add_to u gs k)) (beginning_of c) else Some bad_byte)) ≡ None
+in_token : (goes ends : Bool) (token : Token) (u : Located) (gs : List Group) (k : Option Located) (c o : ℕ) (t : Located) (text : List ℕ) → continues token c ≡ goes → ends_token c ≡ ends → CompletesToken token [] u → (FollowsState (extended token c) gs k t (o + len_utf8 c) text → FollowsToken (extended token c) gs t (o + len_utf8 c) text)
+    → (if goes then refusal_within token c else (if ends then refusal_of_any_beginning (add_to u gs k) (beginning_of c) else Some bad_byte)) ≡ None
     → FollowsReading (if goes then record { token = extended token c; groups = gs; complete = k } else after_beginning (add_to u gs k) o c (beginning_of c)) t (o + len_utf8 c) text
     → FollowsToken token gs t o (encode_utf8 c ++ text)
 in_token true ends token u gs k c o t text eg ee completes conv none h = goes_on_before token gs c o t text eg none (conv h)
@@ -116,7 +116,7 @@ IsCommentText-more c words s other (utf8, none) = (
   HasNoLineFeed-append (encode_utf8 c) words (HasNoLineFeed-encode c other) none,
 )
 
-in_comment : (line_feed : Bool) (gs : List Group) (k : Option Placed) (c o : ℕ) (t : Placed) (text : List ℕ) → IsScalar c → eqb c 10 ≡ line_feed → FollowsReading (if line_feed then record { token = no_token; groups = gs; complete = k } else record { token = comment; groups = gs; complete = k }) t (o + len_utf8 c) text → FollowsComment gs k t o (encode_utf8 c ++ text)
+in_comment : (line_feed : Bool) (gs : List Group) (k : Option Located) (c o : ℕ) (t : Located) (text : List ℕ) → IsScalar c → eqb c 10 ≡ line_feed → FollowsReading (if line_feed then record { token = no_token; groups = gs; complete = k } else record { token = comment; groups = gs; complete = k }) t (o + len_utf8 c) text → FollowsComment gs k t o (encode_utf8 c ++ text)
 in_comment true gs k c o t text s e h =
     let same = eqb-same c 10 e in
     let small : c < 128 = omega (arith, same) in
@@ -141,7 +141,7 @@ in_comment false gs k c o t text s e (inr (is, none, same)) = inr (IsCommentText
 
 -- ---- one character before
 
-before-state : (token : Token) (gs : List Group) (k : Option Placed) (c o : ℕ) (t : Placed) (text : List ℕ) → IsScalar c → IsNameToken token → IsInRange token → refusal_of (record { token = token; groups = gs; complete = k }) c ≡ None → FollowsReading (after (record { token = token; groups = gs; complete = k }) o c) t (o + len_utf8 c) text → FollowsState token gs k t o (encode_utf8 c ++ text)
+before-state : (token : Token) (gs : List Group) (k : Option Located) (c o : ℕ) (t : Located) (text : List ℕ) → IsScalar c → IsNameToken token → IsInRange token → refusal_of (record { token = token; groups = gs; complete = k }) c ≡ None → FollowsReading (after (record { token = token; groups = gs; complete = k }) o c) t (o + len_utf8 c) text → FollowsState token gs k t o (encode_utf8 c ++ text)
 before-state no_token gs k c o t text s name range none h = between (record { token = no_token; groups = gs; complete = k }) c o t text none h
 before-state comment gs k c o t text s name range none h = in_comment (eqb c 10) gs k c o t text s refl h
 before-state (open_name start word_text) gs k c o t text s name range none h =
@@ -153,7 +153,7 @@ before-state (open_literal start bits) gs k c o t text s name range none h =
 
 -- ---- the end
 
-at_end : (token : Token) (gs : List Group) (k : Option Placed) (o : ℕ) (t : Placed) → IsNameToken token → IsInRange token → finish (record { token = token; groups = gs; complete = k }) o ≡ Ok t → FollowsState token gs k t o []
+at_end : (token : Token) (gs : List Group) (k : Option Located) (o : ℕ) (t : Located) → IsNameToken token → IsInRange token → finish (record { token = token; groups = gs; complete = k }) o ≡ Ok t → FollowsState token gs k t o []
 at_end no_token [] None o t name range e = absurd (let x : ⊥ = cc in x)
 at_end no_token [] (Some u) o t name range e = (inl IsGap-nil, cc)
 at_end no_token (g ∷ gs) k o t name range e = absurd (let x : ⊥ = cc in x)
@@ -168,7 +168,7 @@ at_end (open_literal start bits) [] k o t name range e = ([], [], literal start 
 at_end (open_literal start bits) (g ∷ gs) k o t name range e = absurd (let x : ⊥ = cc in x)
 
 -- what reading gives follows the state that it began in
-pub read_on-follows : (cs : List ℕ) (r : Reading) (o : ℕ) (t : Placed) → all_scalars cs ≡ true → IsNameToken r.token → IsInRange r.token → read_on refusal_of r o cs finish ≡ Ok t → FollowsReading r t o (encode_utf8_all cs)
+pub read_on-follows : (cs : List ℕ) (r : Reading) (o : ℕ) (t : Located) → all_scalars cs ≡ true → IsNameToken r.token → IsInRange r.token → read_on refusal_of r o cs finish ≡ Ok t → FollowsReading r t o (encode_utf8_all cs)
 read_on-follows [] r o t all name range e = at_end r.token r.groups r.complete o t name range e
 read_on-follows (c ∷ cs) r o t all name range e =
     let s = and_parts _ _ all in

@@ -8,10 +8,10 @@ use Rattle.std.proofs.lemmas.List.{length-append, length-take-le}
 use Rattle.std.proofs.lemmas.Str.{length-encode, encodes-chars, utf8_valid_len_le}
 use Rattle.ipdl_tree.specs.declared.fault.TreeFault.{TreeFault}
 use Rattle.ipdl_tree.specs.declared.fault.TreeFault.TheVariants.{Spell, Deep, Memory}
-use Rattle.ipdl_tree.specs.Trees.{Placed}
-use Rattle.ipdl_tree.specs.Refusals.{Cause, bad_byte}
-use Rattle.ipdl_tree.specs.Faults.{Fails}
+use Rattle.ipdl_tree.specs.Trees.{Located}
+use Rattle.ipdl_tree.specs.Causes.{Cause, bad_byte}
 use Rattle.ipdl_tree.specs.Reading.{Reading, nothing_read, refusal_of, step, read_on, read_source, finish, ◌>>=◌}
+use Rattle.ipdl_tree.specs.Faults.{Fails}
 
 eqb-same : (m n : ℕ) → m ≡ n → eqb m n ≡ true
 eqb-same m n e = grind (arith, nat_tests)
@@ -35,7 +35,7 @@ abbrev collected : List ℕ → Result Reading (ℕ × Cause)
 collected text = read_on refusal_of nothing_read 0 (chars text) (λ q _. Ok q)
 
 -- what the end of the text gives
-abbrev ending : List ℕ → ℕ → Reading → Result Placed (ℕ × Cause)
+abbrev ending : List ℕ → ℕ → Reading → Result Located (ℕ × Cause)
 ending source n q = if utf8_valid_len source == length source then finish q n else Err (n, bad_byte)
 
 read_source-end : (source text : List ℕ) → text ≡ take (utf8_valid_len source) source → IsUtf8 text → read_source source ≡ (collected text >>= ending source (length text))
@@ -74,5 +74,5 @@ Fails-bind Memory r f h = tt
 -- a character is refused
 pub Fails-source : (fault : TreeFault) (source text : List ℕ) → text ≡ take (utf8_valid_len source) source → IsUtf8 text → Fails fault (collected text) → Fails fault (read_source source)
 Fails-source fault source text e u refused =
-    let P : Result Placed (ℕ × Cause) → Type 0 = Fails fault in
+    let P : Result Located (ℕ × Cause) → Type 0 = Fails fault in
     subst P (sym (read_source-end source text e u)) (Fails-bind fault (collected text) (ending source (length text)) refused)

@@ -9,8 +9,7 @@ use Rattle.unicode_ident.proofs.IdentLemmas.{is_xid_start-ascii, is_xid_continue
 use Rattle.ipdl_base.specs.Names.{starts_name, continues_name}
 use Rattle.ipdl_tree.specs.declared.character.Beginning.TheVariants.{Blank, Number, Word}
 use Rattle.ipdl_tree.specs.Spelling.{is_blank, ends_token}
-use Rattle.ipdl_tree.specs.Refusals.{is_digit}
-use Rattle.ipdl_tree.specs.Characters.{beginning_of}
+use Rattle.ipdl_tree.specs.Characters.{is_digit, beginning_of}
 use Rattle.ipdl_tree.proofs.Beginnings.{by_tests}
 use Rattle.ipdl_tree.proofs.Characters.{or-cases, eqb-same, ends_token-ascii, is_digit-range}
 

@@ -7,9 +7,9 @@ use Rattle.std.proofs.lemmas.List.{at_drop_more, length-drop, length-append}
 use Rattle.std.proofs.lemmas.Str.{length-encode}
 use Rattle.ipdl_tree.specs.declared.fault.TreeFault.{TreeFault}
 use Rattle.ipdl_tree.specs.declared.fault.TreeFault.TheVariants.{Spell, Deep, Memory}
-use Rattle.ipdl_tree.specs.Refusals.{Cause}
-use Rattle.ipdl_tree.specs.Faults.{Fails}
+use Rattle.ipdl_tree.specs.Causes.{Cause}
 use Rattle.ipdl_tree.specs.Reading.{Reading, refusal_of, after, unless, read_on, ◌>>=◌}
+use Rattle.ipdl_tree.specs.Faults.{Fails}
 
 -- the next character begins what is left
 pub next_character : (text cs : List ℕ) (at n c : ℕ) → drop at text ≡ encode_utf8_all (drop n cs) → n < length cs → c ≡ get_or cs n c → drop at text ≡ encode_utf8 c ++ encode_utf8_all (drop (n + 1) cs)

@@ -1,13 +1,13 @@
--- The faults that stand for refusals.
+-- Which fault of the program tells which refusal.
 use Rattle.std.specs.Prelude.{◌≡◌, ℕ, Option, Some, option_map, Result, Ok, Err}
 use Rattle.ipdl_base.specs.declared.limit.Pos.{Pos}
 use Rattle.ipdl_tree.specs.declared.fault.SpellCause.{SpellCause}
 use Rattle.ipdl_tree.specs.declared.fault.SpellCause.TheVariants.{BadByte, BadName, Unclosed, Extra, NoText}
 use Rattle.ipdl_tree.specs.declared.fault.TreeFault.{TreeFault}
 use Rattle.ipdl_tree.specs.declared.fault.TreeFault.TheVariants.{Spell, Deep, Memory}
-use Rattle.ipdl_tree.specs.Refusals.{Cause, bad_byte, bad_name, unclosed, extra, no_text, deep}
+use Rattle.ipdl_tree.specs.Causes.{Cause, bad_byte, bad_name, unclosed, extra, no_text, deep}
 
--- the place of an offset
+-- the program's value of an offset
 abbrev pub pos : ℕ → Pos
 pos offset = record { 0 = offset }
 

@@ -1,4 +1,4 @@
--- What the reader's state stands for.
+-- The reader's state as plain data.
 use Rattle.std.specs.Prelude.{ℕ, ◌≤◌, IsTrue, List, length, map, reverse, drop, option_map}
 use Rattle.ipdl_base.specs.Names.{is_name}
 use Rattle.ipdl_tree.specs.declared.reader.OpenGroup.{OpenGroup}
@@ -6,9 +6,9 @@ use Rattle.ipdl_tree.specs.declared.token.OpenToken.{OpenToken}
 use Rattle.ipdl_tree.specs.declared.token.OpenToken.TheVariants as tokens
 use Rattle.ipdl_tree.specs.declared.reader.Reader.{Reader}
 use Rattle.ipdl_tree.specs.Reading.{Token, no_token, comment, open_name, open_number, open_literal, Group, Reading}
-use Rattle.ipdl_tree.specs.Views.{placed}
+use Rattle.ipdl_tree.specs.Views.{located}
 
--- an open token, after the text before the place where the reader is
+-- an open token, after the text before the offset where the reader is
 abbrev pub token_view : List ℕ → OpenToken → Token
 token_view front tokens.Nothing = no_token
 token_view front tokens.Comment = comment
@@ -18,15 +18,15 @@ token_view front (tokens.Literal start bits) = open_literal start bits
 
 -- a group that is open
 abbrev pub group_view : OpenGroup → Group
-group_view g = record { place = g.pos.0; parts = map placed g.parts.items }
+group_view g = record { start = g.pos.0; parts = map located g.parts.items }
 
 -- all of them, the innermost first
 abbrev pub groups_view : List OpenGroup → List Group
 groups_view groups = reverse (map group_view groups)
 
--- the reader's state, after the text before the place where it is
+-- the reader's state, after the text before the offset where it is
 abbrev pub reading : List ℕ → Reader → Reading
-reading front r = record { token = token_view front r.token; groups = groups_view r.groups.items; complete = option_map placed r.complete }
+reading front r = record { token = token_view front r.token; groups = groups_view r.groups.items; complete = option_map located r.complete }
 
 -- a name that is open is one so far
 abbrev pub IsTokenAfter : List ℕ → OpenToken → Type 0

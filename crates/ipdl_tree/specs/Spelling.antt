@@ -3,7 +3,7 @@ use Rattle.std.specs.Prelude.{◌≡◌, ℕ, suc, ◌+◌, ◌<◌, ◌≤◌, 
 use Rattle.std.specs.Fmt.{decimal}
 use Rattle.std.specs.Str.{is_utf8}
 use Rattle.ipdl_base.specs.Names.{is_name}
-use Rattle.ipdl_tree.specs.Trees.{Placed, word, number, literal, group, Forest, no_trees, tree, place_of}
+use Rattle.ipdl_tree.specs.Trees.{Located, word, number, literal, group, Forest, no_trees, tree, offset_of}
 
 -- ---- between tokens
 
@@ -62,7 +62,7 @@ EndsToken [] = Unit {0}
 EndsToken (b ∷ bs) = IsTrue (ends_token b)
 
 -- what follows a tree does not go on with its token
-abbrev pub IsApart : Placed → List ℕ → Type 0
+abbrev pub IsApart : Located → List ℕ → Type 0
 IsApart (word pos name) rest = EndsToken rest
 IsApart (number pos n) rest = EndsToken rest
 IsApart (literal pos bits) rest = EndsToken rest
@@ -72,9 +72,9 @@ abbrev pub bit_digit : Bool → ℕ
 bit_digit true = 49
 bit_digit false = 48
 
--- the bytes spell the tree, whose first character stands at its place
+-- the bytes spell the tree, whose first character stands at its offset
 abbrev mutual
-  pub Spells : Placed → List ℕ → Type 0
+  pub Spells : Located → List ℕ → Type 0
   Spells (word pos name) text = IsTrue (is_name name) × (text ≡ name)
   Spells (number pos n) text = (n < 2 ^ 32) × (text ≡ decimal n)
   Spells (literal pos bits) text = (length bits ≤ 128) × (text ≡ codes "#" ++ map bit_digit bits)
@@ -85,19 +85,19 @@ abbrev mutual
   SpellsAll no_trees offset text = IsGap text
   SpellsAll (tree t ts) offset text =
       (gap : List ℕ) × (first : List ℕ) × (rest : List ℕ) × IsGap gap × Spells t first
-      × (place_of t ≡ offset + length gap) × IsApart t rest
+      × (offset_of t ≡ offset + length gap) × IsApart t rest
       × SpellsAll ts (offset + length gap + length first) rest × (text ≡ gap ++ first ++ rest)
 
 -- all bytes of a source spell the tree, with gaps around it
-abbrev pub SpellsSource : Placed → List ℕ → Type 0
+abbrev pub SpellsSource : Located → List ℕ → Type 0
 SpellsSource t source =
     (gap : List ℕ) × (text : List ℕ) × (rest : List ℕ) × IsGap gap × Spells t text
-    × (place_of t ≡ length gap) × IsApart t rest × IsLastGap rest × (source ≡ gap ++ text ++ rest)
+    × (offset_of t ≡ length gap) × IsApart t rest × IsLastGap rest × (source ≡ gap ++ text ++ rest)
 
 -- ---- the one spelling that is written: one blank between two parts, and none elsewhere
 
 abbrev mutual
-  pub tree_text : Placed → List ℕ
+  pub tree_text : Located → List ℕ
   tree_text (word pos name) = name
   tree_text (number pos n) = decimal n
   tree_text (literal pos bits) = codes "#" ++ map bit_digit bits
@@ -112,6 +112,6 @@ abbrev mutual
   more_text no_trees = []
   more_text (tree t ts) = codes " " ++ tree_text t ++ more_text ts
 
--- what is written before the part of a group at a place, counted from 0
+-- what is written before the part of a group at an index, counted from 0
 abbrev pub blank_before : ℕ → List ℕ
-blank_before place = if place == 0 then [] else codes " "
+blank_before index = if index == 0 then [] else codes " "

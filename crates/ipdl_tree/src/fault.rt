@@ -1,3 +1,4 @@
+//! The faults of a source that spells no tree, with their offsets.
 use ipdl_base::{NoMemory, Pos};
 use std::alloc::AllocFailed;
 
@@ -19,7 +20,7 @@ pub enum SpellCause {
 /// Why no tree was read.
 #[derive(Clone, Copy, Debug, PartialEq, Eq)]
 pub enum TreeFault {
-    /// The bytes spell no tree. The place is the first at which that shows.
+    /// The bytes spell no tree. The offset is the first at which that shows.
     Spell { pos: Pos, cause: SpellCause },
     /// The parenthesis would be the 201st open one.
     Deep { pos: Pos },

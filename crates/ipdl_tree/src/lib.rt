@@ -15,7 +15,7 @@ mod tree;
 mod write;
 
 pub use fault::{SpellCause, TreeFault};
-pub use laws::{one_tree, refused_where_no_tree, written_is_read};
+pub use laws::{one_tree, refused_where_no_tree, refused_where_stuck, written_is_read};
 pub use read::read_tree;
 pub use tree::{Node, Tree};
 pub use write::{push_literal, push_number, write_tree};

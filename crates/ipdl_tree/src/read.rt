@@ -1,13 +1,14 @@
-ghost use Rattle.std.specs.Prelude.{◌≡◌, ℕ, ◌<◌, ◌≤◌, ◌^◌, length, take, IfOk, OnOk, IfErr, Ok, None};
+//! Reading of bytes: the tree that they spell, or the first fault.
+ghost use Rattle.std.specs.Prelude.{◌≡◌, ℕ, ◌<◌, ◌^◌, length, take, IfOk, OnOk, IfErr, Ok, None};
 ghost use Rattle.std.specs.Str.{chars};
 ghost use Rattle.std.specs.Str.Lossy.{utf8_valid_len};
 ghost use Rattle.ipdl_tree.specs.Faults.{Gives, IsFaultOf};
+ghost use Rattle.ipdl_tree.specs.Trees.{IsShallow};
+ghost use Rattle.ipdl_tree.specs.Reading.{nothing_read, refusal_of, read_on, read_source};
 ghost use Rattle.ipdl_tree.specs.Refusals.{refusal};
 ghost use Rattle.ipdl_tree.specs.Spelling.{SpellsSource};
-ghost use Rattle.ipdl_tree.specs.Trees.{depth_of};
-ghost use Rattle.ipdl_tree.specs.Reading.{nothing_read, refusal_of, read_on, read_source};
 ghost use Rattle.ipdl_tree.specs.ReaderViews.{reading, IsTokenAfter};
-ghost use Rattle.ipdl_tree.specs.Views.{placed};
+ghost use Rattle.ipdl_tree.specs.Views.{located};
 
 use crate::fault::{SpellCause, TreeFault};
 use crate::reader::{Reader, spell};
@@ -46,7 +47,7 @@ fn read_text(alloc: Global, text: &str) -> Result<Reader, TreeFault>
 // The tree that the bytes spell.
 fn read(alloc: Global, bytes: &[u8]) -> Result<Tree, TreeFault>
     requires { length bytes.now < 4_294_967_295 }
-    ensures { Gives placed result (read_source bytes.now) }
+    ensures { Gives located result (read_source bytes.now) }
 {
     let text = text_of(bytes);
     let reader = read_text(alloc, text)?;
@@ -56,14 +57,14 @@ fn read(alloc: Global, bytes: &[u8]) -> Result<Tree, TreeFault>
     reader.finish(alloc, text)
 }
 
-/// The tree that the bytes spell, with blanks and comments around it. In the tree, the place of
+/// The tree that the bytes spell, with blanks and comments around it. In the tree, the offset of
 /// each part is the byte offset of its first character. A fault is the first one of the source.
 ///
 /// Where memory suffices, the bytes are read exactly where they have no refusal.
 pub fn read_tree(alloc: Global, bytes: &[u8]) -> Result<Tree, TreeFault>
     requires { length bytes.now < 4_294_967_295 }
-    ensures spelled { IfOk result (λ t. SpellsSource (placed t) bytes.now) }
-    ensures shallow { IfOk result (λ t. depth_of (placed t) ≤ 200) }
+    ensures spelled { IfOk result (λ t. SpellsSource (located t) bytes.now) }
+    ensures shallow { IfOk result (λ t. IsShallow (located t)) }
     ensures accepted { OnOk result (refusal bytes.now ≡ None) }
     ensures refused { IfErr result (IsFaultOf (refusal bytes.now)) }
 {

@@ -1,38 +1,36 @@
+//! The reader: the tree that has been read of a text so far, one character after the other.
 ghost use Rattle.std.specs.Prelude.{◌≡◌, ℕ, ◌<◌, ◌≤◌, ◌^◌, ◌++◌, [], List, length, OnOk};
 ghost use Rattle.std.specs.Char.{encode_utf8};
 ghost use Rattle.ipdl_tree.specs.Faults.{Gives};
 ghost use Rattle.ipdl_tree.specs.Characters.{beginning_of};
-ghost use Rattle.ipdl_tree.specs.Reading.{nothing_read, progress, add_to, fills_gap, ended, after_beginning, after_in_token, refusal_of_beginning, refusal_of_any_beginning, refusal_in_token, refusal_of, unless, step, finish, whole};
+ghost use Rattle.ipdl_tree.specs.Reading.{nothing_read, add_to, fills_gap, ended, after_beginning, after_in_token, refusal_of_beginning, refusal_of_any_beginning, refusal_in_token, refusal_of, unless, step, finish, whole};
 ghost use Rattle.ipdl_tree.specs.ReaderViews.{reading, groups_view, IsTokenAfter};
-ghost use Rattle.ipdl_tree.specs.Views.{placed};
+ghost use Rattle.ipdl_tree.specs.Views.{located};
 
 use crate::character::{Beginning, beginning_of, ends_token};
 use crate::fault::{SpellCause, TreeFault};
 use crate::token::{OpenToken, continues, extended, no_bits, tree_of};
 use crate::tree::{Node, Tree};
-use ipdl_base::{NoMemory, Pos};
+use ipdl_base::{Limit, NoMemory, Pos};
 use std::alloc::Global;
 
-/// The most parentheses that may be open.
-const MOST_OPEN: usize = 200;
-
-/// Parentheses that are open, and the trees between them so far.
+// Parentheses that are open, and the trees between them so far.
 #[derive(Drop)]
-pub struct OpenGroup {
+pub(crate) struct OpenGroup {
     pos: Pos,
     parts: Vec<Tree>,
 }
 
-/// What was read of a tree so far, the innermost group last.
+// What was read of a tree so far, the innermost group last.
 #[derive(Drop)]
-pub struct Reader {
+pub(crate) struct Reader {
     token: OpenToken,
     groups: Vec<OpenGroup>,
     complete: Option<Tree>,
 }
 
-/// A fault of the spelling at a place.
-pub fn spell(at: u32, cause: SpellCause) -> TreeFault
+// A fault of the spelling at an offset.
+pub(crate) fn spell(at: u32, cause: SpellCause) -> TreeFault
     ensures { result ≡ TreeFault.Spell (record { 0 = at }) cause }
 {
     TreeFault::Spell {
@@ -52,8 +50,8 @@ fn fills_gap(beginning: Beginning) -> bool
 }
 
 impl Reader {
-    /// A reader that has read nothing.
-    pub fn new(alloc: Global) -> Reader
+    // A reader that has read nothing.
+    pub(crate) fn new(alloc: Global) -> Reader
         ensures token { result.token ≡ OpenToken.Nothing }
         ensures nothing { reading [] result ≡ nothing_read }
     {
@@ -68,16 +66,13 @@ impl Reader {
     fn add(&mut self, tree: Tree) -> Result<(), NoMemory>
         ensures token { OnOk result (self.new.token ≡ OpenToken.Nothing) }
         ensures added { (front : List ℕ) → OnOk result
-            (reading front self.new ≡ add_to (placed tree) (groups_view self.old.groups.items) (reading front self.old).complete) }
+            (reading front self.new ≡ add_to (located tree) (groups_view self.old.groups.items) (reading front self.old).complete) }
     {
-        match self.groups.pop() {
-            None => self.complete = Some(tree),
-            Some(mut group) => {
-                group.parts.push(tree)?;
-                self.groups.push(group)?;
-            }
-        }
         self.token = OpenToken::Nothing;
+        match self.groups.last_mut() {
+            None => self.complete = Some(tree),
+            Some(group) => group.parts.push(tree)?,
+        }
         Ok(())
     }
 
@@ -85,9 +80,9 @@ impl Reader {
     fn open(&mut self, alloc: Global, at: u32, c: char) -> Result<(), TreeFault>
         requires { self.old.token ≡ OpenToken.Nothing }
         ensures { (front next : List ℕ) → Gives (λ _. reading next self.new) result
-            (unless (refusal_of_beginning (progress (reading front self.old)) Beginning.Opening) at (after_beginning (reading front self.old) at c Beginning.Opening)) }
+            (unless (refusal_of_beginning (reading front self.old) Beginning.Opening) at (after_beginning (reading front self.old) at c Beginning.Opening)) }
     {
-        if self.groups.len() >= MOST_OPEN {
+        if self.groups.len() as u64 >= Limit::Depth.number() {
             return Err(TreeFault::Deep { pos: Pos(at) });
         }
         self.groups.push(OpenGroup {
@@ -100,7 +95,7 @@ impl Reader {
     // A closing parenthesis.
     fn close(&mut self, at: u32, c: char) -> Result<(), TreeFault>
         ensures { (front next : List ℕ) → Gives (λ _. reading next self.new) result
-            (unless (refusal_of_beginning (progress (reading front self.old)) Beginning.Closing) at (after_beginning (reading front self.old) at c Beginning.Closing)) }
+            (unless (refusal_of_beginning (reading front self.old) Beginning.Closing) at (after_beginning (reading front self.old) at c Beginning.Closing)) }
     {
         match self.groups.pop() {
             None => Err(spell(at, SpellCause::BadByte)),
@@ -126,7 +121,7 @@ impl Reader {
         requires between { self.old.token ≡ OpenToken.Nothing }
         requires digit { beginning ≡ Beginning.Number → (48 ≤ c) × (c ≤ 57) }
         ensures step { Gives (λ _. reading (front.now ++ encode_utf8 c) self.new) result
-            (unless (refusal_of_any_beginning (progress (reading front.now self.old)) beginning) (length front.now) (after_beginning (reading front.now self.old) (length front.now) c beginning)) }
+            (unless (refusal_of_any_beginning (reading front.now self.old) beginning) (length front.now) (after_beginning (reading front.now self.old) (length front.now) c beginning)) }
     {
         let at = front.len() as u32;
         if !fills_gap(beginning) && self.complete.is_some() {
@@ -182,7 +177,7 @@ impl Reader {
         requires small { length front.now < 2 ^ 32 }
         requires token { IsTokenAfter front.now self.old.token }
         ensures step { Gives (λ _. reading (front.now ++ encode_utf8 c) self.new) result
-            (unless (refusal_of_any_beginning (progress (ended (reading front.now self.old))) (beginning_of c)) (length front.now)
+            (unless (refusal_of_any_beginning (ended (reading front.now self.old)) (beginning_of c)) (length front.now)
             (after_beginning (ended (reading front.now self.old)) (length front.now) c (beginning_of c))) }
     {
         self.end_token(alloc, front)?;
@@ -212,8 +207,8 @@ impl Reader {
         }
     }
 
-    /// Reads the character that follows the text.
-    pub fn take(&mut self, alloc: Global, front: &str, c: char) -> Result<(), TreeFault>
+    // Reads the character that follows the text.
+    pub(crate) fn take(&mut self, alloc: Global, front: &str, c: char) -> Result<(), TreeFault>
         requires small { length front.now < 2 ^ 32 }
         requires token { IsTokenAfter front.now self.old.token }
         ensures step { Gives (λ _. reading (front.now ++ encode_utf8 c) self.new) result (step refusal_of (reading front.now self.old) (length front.now) c) }
@@ -230,9 +225,9 @@ impl Reader {
         }
     }
 
-    // The whole tree, where the source ends at the place and no token is open.
+    // The whole tree, where the source ends at the offset and no token is open.
     fn into_tree(self, at: u32) -> Result<Tree, TreeFault>
-        ensures { (front : List ℕ) → Gives placed result (whole (reading front self).groups (reading front self).complete at) }
+        ensures { (front : List ℕ) → Gives located result (whole (reading front self).groups (reading front self).complete at) }
     {
         let Reader {
             token: _,
@@ -248,11 +243,11 @@ impl Reader {
         }
     }
 
-    /// The whole tree, where the source ends after the text.
-    pub fn finish(mut self, alloc: Global, text: &str) -> Result<Tree, TreeFault>
+    // The whole tree, where the source ends after the text.
+    pub(crate) fn finish(mut self, alloc: Global, text: &str) -> Result<Tree, TreeFault>
         requires small { length text.now < 2 ^ 32 }
         requires token { IsTokenAfter text.now self.token }
-        ensures { Gives placed result (finish (reading text.now self) (length text.now)) }
+        ensures { Gives located result (finish (reading text.now self) (length text.now)) }
     {
         self.end_token(alloc, text)?;
         self.into_tree(text.len() as u32)

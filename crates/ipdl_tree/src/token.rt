@@ -1,12 +1,12 @@
+//! Tokens that are open: which character goes on with one, and the tree that one gives.
 ghost use Rattle.std.specs.Prelude.{◌≡◌, ℕ, ◌+◌, ◌*◌, ◌<◌, ◌≤◌, ◌^◌, ◌++◌, ◌∷◌, [], List, length, drop, IsTrue, IfOk, MatchResult, Some, None, option_map};
 ghost use Rattle.std.specs.Option.{SomeIff};
 ghost use Rattle.std.specs.Char.{encode_utf8};
 ghost use Rattle.ipdl_base.specs.Names.{is_name};
 ghost use Rattle.ipdl_tree.specs.Faults.{cause_of};
-ghost use Rattle.ipdl_tree.specs.Refusals.{continues, refusal_within};
-ghost use Rattle.ipdl_tree.specs.Reading.{tree_of, extended, mode_of};
+ghost use Rattle.ipdl_tree.specs.Reading.{continues, refusal_within, tree_of, extended};
 ghost use Rattle.ipdl_tree.specs.ReaderViews.{token_view, IsTokenAfter};
-ghost use Rattle.ipdl_tree.specs.Views.{placed};
+ghost use Rattle.ipdl_tree.specs.Views.{located};
 
 use crate::character::{continues_name, is_digit};
 use crate::fault::SpellCause;
@@ -14,12 +14,12 @@ use crate::tree::{Node, Tree};
 use ipdl_base::{Bits, Name, NameFault, NoMemory, Pos};
 use std::alloc::Global;
 
-/// The most bytes of a name.
+// The most bytes of a name.
 const LONGEST_NAME: usize = 64;
 
-/// A token that is open, or a comment. A name is the text from its start on.
+// A token that is open, or a comment. A name is the text from its start on.
 #[derive(Clone, Copy)]
-pub enum OpenToken {
+pub(crate) enum OpenToken {
     Nothing,
     Comment,
     Name { start: u32 },
@@ -27,9 +27,9 @@ pub enum OpenToken {
     Literal { start: u32, bits: Bits },
 }
 
-/// Whether the character goes on with the token.
-pub fn continues(token: OpenToken, c: char) -> bool
-    ensures { (front : List ℕ) → result ≡ continues (mode_of (token_view front token)) c }
+// Whether the character goes on with the token.
+pub(crate) fn continues(token: OpenToken, c: char) -> bool
+    ensures { (front : List ℕ) → result ≡ continues (token_view front token) c }
 {
     match token {
         OpenToken::Nothing | OpenToken::Comment => false,
@@ -39,9 +39,9 @@ pub fn continues(token: OpenToken, c: char) -> bool
     }
 }
 
-/// No bits.
+// No bits.
 #[tactic(auto, unfolding(ipdl_base::specs::Bits::bits_of))]
-pub fn no_bits() -> Bits
+pub(crate) fn no_bits() -> Bits
     ensures { result ≡ [] }
 {
     match Bits::new(0, 0) {
@@ -78,14 +78,14 @@ fn with_digit(value: u32, digit: u32) -> Option<u32>
     value.checked_mul(10)?.checked_add(digit)
 }
 
-/// The open token after the text with a character that goes on with it.
-pub fn extended(token: OpenToken, front: &str, c: char) -> Result<OpenToken, SpellCause>
+// The open token after the text with a character that goes on with it.
+pub(crate) fn extended(token: OpenToken, front: &str, c: char) -> Result<OpenToken, SpellCause>
     requires small { length front.now < 2 ^ 32 }
-    requires continues { IsTrue (continues (mode_of (token_view front.now token)) c) }
+    requires continues { IsTrue (continues (token_view front.now token) c) }
     requires token { IsTokenAfter front.now token }
     ensures extended { MatchResult result
-        (λ t. (refusal_within (mode_of (token_view front.now token)) c ≡ None) × (token_view (front.now ++ encode_utf8 c) t ≡ extended (token_view front.now token) c))
-        (λ cause. refusal_within (mode_of (token_view front.now token)) c ≡ Some (cause_of cause)) }
+        (λ t. (refusal_within (token_view front.now token) c ≡ None) × (token_view (front.now ++ encode_utf8 c) t ≡ extended (token_view front.now token) c))
+        (λ cause. refusal_within (token_view front.now token) c ≡ Some (cause_of cause)) }
 {
     match token {
         OpenToken::Nothing | OpenToken::Comment => Ok(token),
@@ -107,10 +107,14 @@ pub fn extended(token: OpenToken, front: &str, c: char) -> Result<OpenToken, Spe
     }
 }
 
-/// The tree of an open token that ends after the text.
-pub fn tree_of(alloc: Global, front: &str, token: OpenToken) -> Result<Option<Tree>, NoMemory>
+// The tree of an open token that ends after the text.
+pub(crate) fn tree_of(
+    alloc: Global,
+    front: &str,
+    token: OpenToken,
+) -> Result<Option<Tree>, NoMemory>
     requires { IsTokenAfter front.now token }
-    ensures { IfOk result (λ tree. option_map placed tree ≡ tree_of (token_view front.now token)) }
+    ensures { IfOk result (λ tree. option_map located tree ≡ tree_of (token_view front.now token)) }
 {
     let (start, node) = match token {
         OpenToken::Nothing | OpenToken::Comment => return Ok(None),

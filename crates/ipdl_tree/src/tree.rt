@@ -1,8 +1,9 @@
+//! The data of a tree: a word, a number, a literal or a group, each with its byte offset.
 use ipdl_base::{Bits, Name, Pos};
 
 /// A tree, with the byte offset of its first character in the text that it was read from.
 #[cycle(tree)]
-#[derive(Debug, Drop)]
+#[derive(Drop)]
 pub struct Tree {
     pub pos: Pos,
     pub node: Node,
@@ -10,7 +11,7 @@ pub struct Tree {
 
 /// A token, or the trees between two parentheses.
 #[cycle(tree)]
-#[derive(Debug, Drop)]
+#[derive(Drop)]
 pub enum Node {
     Word(Name),
     Number(u32),

@@ -1,6 +1,6 @@
 use Rattle.std.proofs.Common.{refl}
 use Rattle.std.proofs.lemmas.Result.{err_from_is_err_and}
-use Rattle.ipdl_tree.specs.Views.{placed}
+use Rattle.ipdl_tree.specs.Views.{located}
 use Rattle.ipdl_tree.proofs.ReaderSteps.{Gives-from_error, Gives-same, Fails-same}
 use Rattle.ipdl_tree.proofs.SourceSteps.{read_source-text, read_source-broken, Fails-source}
 use Rattle.ipdl_tree.proofs.read.read.Goals as goal
@@ -19,4 +19,4 @@ returns-then-text-bytes c =
 pub returns : goal.returns
 returns c =
     let e = read_source-text c.args.bytes.now c.text_of-text.result.now _ c.text_of-text.ensures c.text_of-text.utf8 c.in_ok-reader.ensures.read c.if-text-bytes.false in
-    Gives-same placed c.finish.result _ _ e c.finish.ensures
+    Gives-same located c.finish.result _ _ e c.finish.ensures

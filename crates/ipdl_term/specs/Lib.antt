@@ -15,4 +15,10 @@ pub mod Same
 pub mod Spines
 pub mod Fitting
 pub mod Rules
+pub mod Steps
+pub mod Places
+pub mod Surroundings
+pub mod Rewriting
+pub mod Renaming
+pub mod Within
 pub mod Worked

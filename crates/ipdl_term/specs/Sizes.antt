@@ -1,5 +1,7 @@
 -- How large a term is: its nodes, its assignments, its depth in print, its binders and its variables.
 use Rattle.std.specs.Prelude.{ℕ, ◌+◌, ◌-◌, ◌^◌, min, max}
+use Rattle.ipdl_base.specs.Limits.{limit_number}
+use Rattle.ipdl_base.specs.declared.limit.Limit.TheVariants.{Nodes}
 use Rattle.ipdl_term.specs.Terms.{Expression, literal, variable, outer, application, exclusive, conjunction, negation, concatenation, segment, equality, selection, Reaction, returning, flipping, reading, branching, binding, Protocol, nil, assignment, parallel, hiding, Term, protocol_term, reaction_term, expression_term}
 
 -- a count in 64 bits: it stands at the last one where it is larger
@@ -8,7 +10,7 @@ saturated n = min n (2 ^ 64 - 1)
 
 -- the most nodes that a new term may have
 abbrev pub most_nodes : ℕ
-most_nodes = 4_096
+most_nodes = limit_number Nodes
 
 -- ---- nodes
 
@@ -86,6 +88,10 @@ depth_in par_spine (parallel p q) = max (depth_in no_spine p) (depth_in par_spin
 depth_in spine (parallel p q) = max (depth_in no_spine p) (depth_in par_spine q) + 1
 depth_in new_spine (hiding c w p) = depth_in new_spine p
 depth_in spine (hiding c w p) = max 2 (depth_in new_spine p) + 1
+
+-- the greatest depth of a protocol in print: less than that of a source, in which the item stands around it
+abbrev pub greatest_printed_depth : ℕ
+greatest_printed_depth = 190
 
 -- the depth of the printed protocol; the ports of a `new` stand in two parentheses of their own
 abbrev pub printed_depth : Protocol → ℕ

@@ -1,8 +1,10 @@
+//! Protocols with one hole.
+
 use crate::protocol::Proto;
 use ipdl_base::Name;
 
 /// A protocol with one hole in it.
-#[derive(Debug, Drop)]
+#[derive(Drop)]
 pub enum Ctx {
     /// The hole alone.
     Hole,

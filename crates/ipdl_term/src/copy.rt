@@ -1,6 +1,9 @@
+//! Copies of terms, in memory of their own.
+
 ghost use Rattle.std.specs.Prelude.{◌≡◌, IfOk};
 ghost use Rattle.ipdl_term.specs.Views.{expression_of, reaction_of, protocol_of, context_of, term_of};
 
+use crate::boxing::boxed;
 use crate::context::Ctx;
 use crate::expression::Expr;
 use crate::part::Part;
@@ -17,29 +20,29 @@ pub fn copy_expr(alloc: Global, term: &Expr) -> Result<Expr, NoMemory>
         Expr::Lit(bits) => Expr::Lit(*bits),
         Expr::Var(n) => Expr::Var(*n),
         Expr::Outer(n) => Expr::Outer(*n),
-        Expr::Apply(f, e) => Expr::Apply(*f, Box::new(alloc, copy_expr(alloc, e)?)?),
+        Expr::Apply(f, e) => Expr::Apply(*f, boxed(alloc, copy_expr(alloc, e))?),
         Expr::Xor(a, b) => Expr::Xor(
-            Box::new(alloc, copy_expr(alloc, a)?)?,
-            Box::new(alloc, copy_expr(alloc, b)?)?,
+            boxed(alloc, copy_expr(alloc, a))?,
+            boxed(alloc, copy_expr(alloc, b))?,
         ),
         Expr::And(a, b) => Expr::And(
-            Box::new(alloc, copy_expr(alloc, a)?)?,
-            Box::new(alloc, copy_expr(alloc, b)?)?,
+            boxed(alloc, copy_expr(alloc, a))?,
+            boxed(alloc, copy_expr(alloc, b))?,
         ),
-        Expr::Not(a) => Expr::Not(Box::new(alloc, copy_expr(alloc, a)?)?),
+        Expr::Not(a) => Expr::Not(boxed(alloc, copy_expr(alloc, a))?),
         Expr::Cat(a, b) => Expr::Cat(
-            Box::new(alloc, copy_expr(alloc, a)?)?,
-            Box::new(alloc, copy_expr(alloc, b)?)?,
+            boxed(alloc, copy_expr(alloc, a))?,
+            boxed(alloc, copy_expr(alloc, b))?,
         ),
-        Expr::Cut(i, n, a) => Expr::Cut(*i, *n, Box::new(alloc, copy_expr(alloc, a)?)?),
+        Expr::Cut(i, n, a) => Expr::Cut(*i, *n, boxed(alloc, copy_expr(alloc, a))?),
         Expr::Same(a, b) => Expr::Same(
-            Box::new(alloc, copy_expr(alloc, a)?)?,
-            Box::new(alloc, copy_expr(alloc, b)?)?,
+            boxed(alloc, copy_expr(alloc, a))?,
+            boxed(alloc, copy_expr(alloc, b))?,
         ),
         Expr::Mux(c, a, b) => Expr::Mux(
-            Box::new(alloc, copy_expr(alloc, c)?)?,
-            Box::new(alloc, copy_expr(alloc, a)?)?,
-            Box::new(alloc, copy_expr(alloc, b)?)?,
+            boxed(alloc, copy_expr(alloc, c))?,
+            boxed(alloc, copy_expr(alloc, a))?,
+            boxed(alloc, copy_expr(alloc, b))?,
         ),
     })
 }
@@ -52,15 +55,17 @@ pub fn copy_react(alloc: Global, term: &React) -> Result<React, NoMemory>
         React::Ret(e) => React::Ret(copy_expr(alloc, e)?),
         React::Flip(w) => React::Flip(*w),
         React::Read(c) => React::Read(c.copy(alloc)?),
-        React::Cond(e, r, s) => React::Cond(
-            copy_expr(alloc, e)?,
-            Box::new(alloc, copy_react(alloc, r)?)?,
-            Box::new(alloc, copy_react(alloc, s)?)?,
-        ),
+        React::Cond(e, r, s) => {
+            let (one, other) = (
+                boxed(alloc, copy_react(alloc, r))?,
+                boxed(alloc, copy_react(alloc, s))?,
+            );
+            React::Cond(copy_expr(alloc, e)?, one, other)
+        }
         React::Bind(w, r, s) => React::Bind(
             *w,
-            Box::new(alloc, copy_react(alloc, r)?)?,
-            Box::new(alloc, copy_react(alloc, s)?)?,
+            boxed(alloc, copy_react(alloc, r))?,
+            boxed(alloc, copy_react(alloc, s))?,
         ),
     })
 }
@@ -73,13 +78,13 @@ pub fn copy_proto(alloc: Global, proto: &Proto) -> Result<Proto, NoMemory>
         Proto::Nil => Proto::Nil,
         Proto::Out(c, r) => Proto::Out(c.copy(alloc)?, copy_react(alloc, r)?),
         Proto::Par(p, q) => Proto::Par(
-            Box::new(alloc, copy_proto(alloc, p)?)?,
-            Box::new(alloc, copy_proto(alloc, q)?)?,
+            boxed(alloc, copy_proto(alloc, p))?,
+            boxed(alloc, copy_proto(alloc, q))?,
         ),
         Proto::Hide(c, w, p) => Proto::Hide(
             c.copy(alloc)?,
             *w,
-            Box::new(alloc, copy_proto(alloc, p)?)?,
+            boxed(alloc, copy_proto(alloc, p))?,
         ),
     })
 }
@@ -91,17 +96,17 @@ pub fn copy_ctx(alloc: Global, ctx: &Ctx) -> Result<Ctx, NoMemory>
     Ok(match ctx {
         Ctx::Hole => Ctx::Hole,
         Ctx::Left(inner, q) => Ctx::Left(
-            Box::new(alloc, copy_ctx(alloc, inner)?)?,
+            boxed(alloc, copy_ctx(alloc, inner))?,
             copy_proto(alloc, q)?,
         ),
-        Ctx::Right(p, inner) => Ctx::Right(
-            copy_proto(alloc, p)?,
-            Box::new(alloc, copy_ctx(alloc, inner)?)?,
-        ),
+        Ctx::Right(p, inner) => {
+            let inner = boxed(alloc, copy_ctx(alloc, inner))?;
+            Ctx::Right(copy_proto(alloc, p)?, inner)
+        }
         Ctx::Hide(c, w, inner) => Ctx::Hide(
             c.copy(alloc)?,
             *w,
-            Box::new(alloc, copy_ctx(alloc, inner)?)?,
+            boxed(alloc, copy_ctx(alloc, inner))?,
         ),
     })
 }

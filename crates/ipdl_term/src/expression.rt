@@ -1,10 +1,12 @@
+//! Expressions: the values of reactions, without chance.
+
 use ipdl_base::Bits;
 
 /// An expression: its value is a list of bits, and it has no chance in it.
 ///
 /// A variable is named by the number of binders between it and its own, so `Var(0)` is that of
 /// the innermost binder. A symbol is named by its number in the signature.
-#[derive(Debug, Drop)]
+#[derive(Drop)]
 pub enum Expr {
     /// These bits.
     Lit(Bits),

@@ -3,10 +3,12 @@
 //! on terms that need no script. All terms are plain trees.
 #![tactic(auto)]
 
+mod boxing;
 mod context;
 mod copy;
 mod expression;
 mod interface;
+mod laws;
 mod lift;
 mod names;
 mod occurs;
@@ -23,10 +25,12 @@ mod step;
 mod words;
 mod worked;
 
+pub use boxing::boxed;
 pub use context::Ctx;
 pub use copy::{copy_ctx, copy_expr, copy_part, copy_proto, copy_react};
 pub use expression::Expr;
 pub use interface::{Interface, Port};
+pub use laws::{heading_of_word, rule_of_word_and_arguments, typed_is_within};
 pub use lift::{lift_expr, lift_react};
 pub use names::Names;
 pub use occurs::{has_flip, has_read, uses};
@@ -37,9 +41,9 @@ pub use put::{TermFault, put_expr, put_react};
 pub use reaction::React;
 pub use sets::{free, must, outs, reads};
 pub use settling::{SettleFault, settle};
-pub use sizes::{channels, coins, depth, nodes, proto_nodes};
+pub use sizes::{channels, coins, depth, expr_nodes, nodes, proto_nodes, react_nodes};
 pub use step::{Dir, Rule, Step};
-pub use words::{rule_number, rule_word};
+pub use words::{plain_rule, rule_number, rule_word};
 pub use worked::{
     counts_of_a_cancelled_bit, counts_of_a_negated_bit, counts_of_a_pad,
     counts_of_a_shadowed_channel, counts_of_waiting_channels,

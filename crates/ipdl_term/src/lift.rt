@@ -1,8 +1,11 @@
+//! Lifting: the variables from a number on grow, so that a term can stand under more binders.
+
 ghost use Rattle.std.specs.Prelude.{◌≡◌, ℕ, ◌+◌, ◌^◌, ◌<◌, ◌≤◌, IfOk, OnOk};
 ghost use Rattle.ipdl_term.specs.Views.{expression_of, reaction_of};
 ghost use Rattle.ipdl_term.specs.Variables.{lifted_expression, lifted_reaction};
 ghost use Rattle.ipdl_term.specs.Fitting.{LiftFitsInExpression, LiftFitsInReaction};
 
+use crate::boxing::boxed;
 use crate::expression::Expr;
 use crate::reaction::React;
 use ipdl_base::NoMemory;
@@ -18,33 +21,29 @@ fn lift_expr_from(alloc: Global, term: &Expr, from: u64, by: u32) -> Result<Expr
         Expr::Lit(bits) => Expr::Lit(*bits),
         Expr::Var(n) => Expr::Var(if u64::from(*n) < from { *n } else { *n + by }),
         Expr::Outer(n) => Expr::Outer(*n),
-        Expr::Apply(f, e) => Expr::Apply(*f, Box::new(alloc, lift_expr_from(alloc, e, from, by)?)?),
+        Expr::Apply(f, e) => Expr::Apply(*f, boxed(alloc, lift_expr_from(alloc, e, from, by))?),
         Expr::Xor(a, b) => Expr::Xor(
-            Box::new(alloc, lift_expr_from(alloc, a, from, by)?)?,
-            Box::new(alloc, lift_expr_from(alloc, b, from, by)?)?,
+            boxed(alloc, lift_expr_from(alloc, a, from, by))?,
+            boxed(alloc, lift_expr_from(alloc, b, from, by))?,
         ),
         Expr::And(a, b) => Expr::And(
-            Box::new(alloc, lift_expr_from(alloc, a, from, by)?)?,
-            Box::new(alloc, lift_expr_from(alloc, b, from, by)?)?,
+            boxed(alloc, lift_expr_from(alloc, a, from, by))?,
+            boxed(alloc, lift_expr_from(alloc, b, from, by))?,
         ),
-        Expr::Not(a) => Expr::Not(Box::new(alloc, lift_expr_from(alloc, a, from, by)?)?),
+        Expr::Not(a) => Expr::Not(boxed(alloc, lift_expr_from(alloc, a, from, by))?),
         Expr::Cat(a, b) => Expr::Cat(
-            Box::new(alloc, lift_expr_from(alloc, a, from, by)?)?,
-            Box::new(alloc, lift_expr_from(alloc, b, from, by)?)?,
+            boxed(alloc, lift_expr_from(alloc, a, from, by))?,
+            boxed(alloc, lift_expr_from(alloc, b, from, by))?,
         ),
-        Expr::Cut(i, n, a) => Expr::Cut(
-            *i,
-            *n,
-            Box::new(alloc, lift_expr_from(alloc, a, from, by)?)?,
-        ),
+        Expr::Cut(i, n, a) => Expr::Cut(*i, *n, boxed(alloc, lift_expr_from(alloc, a, from, by))?),
         Expr::Same(a, b) => Expr::Same(
-            Box::new(alloc, lift_expr_from(alloc, a, from, by)?)?,
-            Box::new(alloc, lift_expr_from(alloc, b, from, by)?)?,
+            boxed(alloc, lift_expr_from(alloc, a, from, by))?,
+            boxed(alloc, lift_expr_from(alloc, b, from, by))?,
         ),
         Expr::Mux(c, a, b) => Expr::Mux(
-            Box::new(alloc, lift_expr_from(alloc, c, from, by)?)?,
-            Box::new(alloc, lift_expr_from(alloc, a, from, by)?)?,
-            Box::new(alloc, lift_expr_from(alloc, b, from, by)?)?,
+            boxed(alloc, lift_expr_from(alloc, c, from, by))?,
+            boxed(alloc, lift_expr_from(alloc, a, from, by))?,
+            boxed(alloc, lift_expr_from(alloc, b, from, by))?,
         ),
     })
 }
@@ -59,18 +58,17 @@ fn lift_react_from(alloc: Global, term: &React, from: u64, by: u32) -> Result<Re
         React::Ret(e) => React::Ret(lift_expr_from(alloc, e, from, by)?),
         React::Flip(w) => React::Flip(*w),
         React::Read(c) => React::Read(c.copy(alloc)?),
-        React::Cond(e, r, s) => React::Cond(
-            lift_expr_from(alloc, e, from, by)?,
-            Box::new(alloc, lift_react_from(alloc, r, from, by)?)?,
-            Box::new(alloc, lift_react_from(alloc, s, from, by)?)?,
-        ),
+        React::Cond(e, r, s) => {
+            let (one, other) = (
+                boxed(alloc, lift_react_from(alloc, r, from, by))?,
+                boxed(alloc, lift_react_from(alloc, s, from, by))?,
+            );
+            React::Cond(lift_expr_from(alloc, e, from, by)?, one, other)
+        }
         React::Bind(w, r, s) => React::Bind(
             *w,
-            Box::new(alloc, lift_react_from(alloc, r, from, by)?)?,
-            Box::new(
-                alloc,
-                lift_react_from(alloc, s, from.saturating_add(1), by)?,
-            )?,
+            boxed(alloc, lift_react_from(alloc, r, from, by))?,
+            boxed(alloc, lift_react_from(alloc, s, from.saturating_add(1), by))?,
         ),
     })
 }

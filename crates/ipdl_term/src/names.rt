@@ -1,3 +1,5 @@
+//! Sets of names, kept in the order of their bytes.
+
 ghost use Rattle.std.specs.Prelude.{◌≡◌, ◌||◌, [], ◌∷◌, IfOk, OnOk, OnErr};
 ghost use Rattle.std.specs.Cmp.Lexicographic.{slice_cmp};
 ghost use Rattle.std.specs.List.Sorted.{IsStrictlySortedBy};
@@ -11,7 +13,7 @@ use std::marker::Model;
 
 /// A set of names. Contracts see it as the list of its members in the order of their bytes, no
 /// member twice.
-#[derive(Debug, Drop)]
+#[derive(Drop)]
 pub struct Names {
     names: Vec<Name>,
 }

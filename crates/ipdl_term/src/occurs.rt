@@ -1,3 +1,5 @@
+//! Whether a variable, a `flip` or a `read` occurs in a term.
+
 ghost use Rattle.std.specs.Prelude.{◌≡◌, ℕ, ◌+◌, ◌^◌, ◌<◌, ◌≤◌, false};
 ghost use Rattle.ipdl_term.specs.Views.{expression_of, reaction_of};
 ghost use Rattle.ipdl_term.specs.Variables.{expression_uses, reaction_uses, has_flip, has_read};

@@ -1,8 +1,11 @@
+//! Contexts with a protocol or another context in their hole.
+
 ghost use Rattle.std.specs.Prelude.{◌≡◌, ◌↔◌, ◌<◌, IfOk};
 ghost use Rattle.ipdl_term.specs.Views.{protocol_of, context_of};
 ghost use Rattle.ipdl_term.specs.Sizes.{saturated, most_nodes, protocol_nodes};
 ghost use Rattle.ipdl_term.specs.Contexts.{plugged, nested};
 
+use crate::boxing::boxed;
 use crate::context::Ctx;
 use crate::copy::{copy_ctx, copy_proto};
 use crate::protocol::Proto;
@@ -29,22 +32,22 @@ fn plugged_nodes(ctx: &Ctx, proto: &Proto, nodes: u64) -> u64
 fn plugged_proto(alloc: Global, ctx: &Ctx, proto: &Proto) -> Result<Proto, NoMemory>
     ensures { IfOk result (λ whole. protocol_of whole ≡ plugged (context_of ctx.now) (protocol_of proto.now)) }
 {
-    match ctx {
-        Ctx::Hole => copy_proto(alloc, proto),
-        Ctx::Left(inner, other) => Ok(Proto::Par(
-            Box::new(alloc, plugged_proto(alloc, inner, proto)?)?,
-            Box::new(alloc, copy_proto(alloc, other)?)?,
-        )),
-        Ctx::Right(other, inner) => Ok(Proto::Par(
-            Box::new(alloc, copy_proto(alloc, other)?)?,
-            Box::new(alloc, plugged_proto(alloc, inner, proto)?)?,
-        )),
-        Ctx::Hide(c, w, inner) => Ok(Proto::Hide(
+    Ok(match ctx {
+        Ctx::Hole => copy_proto(alloc, proto)?,
+        Ctx::Left(inner, other) => Proto::Par(
+            boxed(alloc, plugged_proto(alloc, inner, proto))?,
+            boxed(alloc, copy_proto(alloc, other))?,
+        ),
+        Ctx::Right(other, inner) => Proto::Par(
+            boxed(alloc, copy_proto(alloc, other))?,
+            boxed(alloc, plugged_proto(alloc, inner, proto))?,
+        ),
+        Ctx::Hide(c, w, inner) => Proto::Hide(
             c.copy(alloc)?,
             *w,
-            Box::new(alloc, plugged_proto(alloc, inner, proto)?)?,
-        )),
-    }
+            boxed(alloc, plugged_proto(alloc, inner, proto))?,
+        ),
+    })
 }
 
 /// The context with the protocol in its hole. `Nodes` exactly where that is too large, which is
@@ -66,20 +69,20 @@ pub fn plug(alloc: Global, ctx: &Ctx, proto: &Proto) -> Result<Proto, TermFault>
 pub fn nest(alloc: Global, outer: &Ctx, inner: &Ctx) -> Result<Ctx, NoMemory>
     ensures { IfOk result (λ whole. context_of whole ≡ nested (context_of outer.now) (context_of inner.now)) }
 {
-    match outer {
-        Ctx::Hole => copy_ctx(alloc, inner),
-        Ctx::Left(next, other) => Ok(Ctx::Left(
-            Box::new(alloc, nest(alloc, next, inner)?)?,
+    Ok(match outer {
+        Ctx::Hole => copy_ctx(alloc, inner)?,
+        Ctx::Left(next, other) => Ctx::Left(
+            boxed(alloc, nest(alloc, next, inner))?,
             copy_proto(alloc, other)?,
-        )),
-        Ctx::Right(other, next) => Ok(Ctx::Right(
-            copy_proto(alloc, other)?,
-            Box::new(alloc, nest(alloc, next, inner)?)?,
-        )),
-        Ctx::Hide(c, w, next) => Ok(Ctx::Hide(
+        ),
+        Ctx::Right(other, next) => {
+            let next = boxed(alloc, nest(alloc, next, inner))?;
+            Ctx::Right(copy_proto(alloc, other)?, next)
+        }
+        Ctx::Hide(c, w, next) => Ctx::Hide(
             c.copy(alloc)?,
             *w,
-            Box::new(alloc, nest(alloc, next, inner)?)?,
-        )),
-    }
+            boxed(alloc, nest(alloc, next, inner))?,
+        ),
+    })
 }

@@ -1,8 +1,10 @@
+//! Protocols: networks of channels.
+
 use crate::reaction::React;
 use ipdl_base::Name;
 
 /// A protocol: a network of channels, each of which at most one reaction may write.
-#[derive(Debug, Drop)]
+#[derive(Drop)]
 pub enum Proto {
     /// No channel.
     Nil,

@@ -1,3 +1,5 @@
+//! Substitution: a value in the place of a variable, without capture and within the limit on nodes.
+
 ghost use Rattle.std.specs.Prelude.{◌≡◌, ◌↔◌, ◌+◌, ◌^◌, ◌<◌, max, IfOk};
 ghost use Rattle.ipdl_term.specs.Views.{expression_of, reaction_of};
 ghost use Rattle.ipdl_term.specs.Terms.{variable};
@@ -5,6 +7,7 @@ ghost use Rattle.ipdl_term.specs.Sizes.{saturated, most_nodes, expression_nodes,
 ghost use Rattle.ipdl_term.specs.Variables.{put_number, put_expression, put_reaction};
 ghost use Rattle.ipdl_term.specs.Fitting.{LiftFitsInExpression};
 
+use crate::boxing::boxed;
 use crate::expression::Expr;
 use crate::lift::lift_expr;
 use crate::reaction::React;
@@ -90,36 +93,33 @@ fn put_expr_under(alloc: Global, body: &Expr, depth: u32, value: &Expr) -> Resul
         Expr::Lit(bits) => Expr::Lit(*bits),
         Expr::Var(n) => put_var(alloc, *n, depth, value)?,
         Expr::Outer(n) => Expr::Outer(*n),
-        Expr::Apply(f, e) => Expr::Apply(
-            *f,
-            Box::new(alloc, put_expr_under(alloc, e, depth, value)?)?,
-        ),
+        Expr::Apply(f, e) => Expr::Apply(*f, boxed(alloc, put_expr_under(alloc, e, depth, value))?),
         Expr::Xor(a, b) => Expr::Xor(
-            Box::new(alloc, put_expr_under(alloc, a, depth, value)?)?,
-            Box::new(alloc, put_expr_under(alloc, b, depth, value)?)?,
+            boxed(alloc, put_expr_under(alloc, a, depth, value))?,
+            boxed(alloc, put_expr_under(alloc, b, depth, value))?,
         ),
         Expr::And(a, b) => Expr::And(
-            Box::new(alloc, put_expr_under(alloc, a, depth, value)?)?,
-            Box::new(alloc, put_expr_under(alloc, b, depth, value)?)?,
+            boxed(alloc, put_expr_under(alloc, a, depth, value))?,
+            boxed(alloc, put_expr_under(alloc, b, depth, value))?,
         ),
-        Expr::Not(a) => Expr::Not(Box::new(alloc, put_expr_under(alloc, a, depth, value)?)?),
+        Expr::Not(a) => Expr::Not(boxed(alloc, put_expr_under(alloc, a, depth, value))?),
         Expr::Cat(a, b) => Expr::Cat(
-            Box::new(alloc, put_expr_under(alloc, a, depth, value)?)?,
-            Box::new(alloc, put_expr_under(alloc, b, depth, value)?)?,
+            boxed(alloc, put_expr_under(alloc, a, depth, value))?,
+            boxed(alloc, put_expr_under(alloc, b, depth, value))?,
         ),
         Expr::Cut(i, n, a) => Expr::Cut(
             *i,
             *n,
-            Box::new(alloc, put_expr_under(alloc, a, depth, value)?)?,
+            boxed(alloc, put_expr_under(alloc, a, depth, value))?,
         ),
         Expr::Same(a, b) => Expr::Same(
-            Box::new(alloc, put_expr_under(alloc, a, depth, value)?)?,
-            Box::new(alloc, put_expr_under(alloc, b, depth, value)?)?,
+            boxed(alloc, put_expr_under(alloc, a, depth, value))?,
+            boxed(alloc, put_expr_under(alloc, b, depth, value))?,
         ),
         Expr::Mux(c, a, b) => Expr::Mux(
-            Box::new(alloc, put_expr_under(alloc, c, depth, value)?)?,
-            Box::new(alloc, put_expr_under(alloc, a, depth, value)?)?,
-            Box::new(alloc, put_expr_under(alloc, b, depth, value)?)?,
+            boxed(alloc, put_expr_under(alloc, c, depth, value))?,
+            boxed(alloc, put_expr_under(alloc, a, depth, value))?,
+            boxed(alloc, put_expr_under(alloc, b, depth, value))?,
         ),
     })
 }
@@ -134,15 +134,17 @@ fn put_react_under(alloc: Global, body: &React, depth: u32, value: &Expr) -> Res
         React::Ret(e) => React::Ret(put_expr_under(alloc, e, depth, value)?),
         React::Flip(w) => React::Flip(*w),
         React::Read(c) => React::Read(c.copy(alloc)?),
-        React::Cond(e, r, s) => React::Cond(
-            put_expr_under(alloc, e, depth, value)?,
-            Box::new(alloc, put_react_under(alloc, r, depth, value)?)?,
-            Box::new(alloc, put_react_under(alloc, s, depth, value)?)?,
-        ),
+        React::Cond(e, r, s) => {
+            let (one, other) = (
+                boxed(alloc, put_react_under(alloc, r, depth, value))?,
+                boxed(alloc, put_react_under(alloc, s, depth, value))?,
+            );
+            React::Cond(put_expr_under(alloc, e, depth, value)?, one, other)
+        }
         React::Bind(w, r, s) => React::Bind(
             *w,
-            Box::new(alloc, put_react_under(alloc, r, depth, value)?)?,
-            Box::new(alloc, put_react_under(alloc, s, depth + 1, value)?)?,
+            boxed(alloc, put_react_under(alloc, r, depth, value))?,
+            boxed(alloc, put_react_under(alloc, s, depth + 1, value))?,
         ),
     })
 }

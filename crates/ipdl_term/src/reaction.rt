@@ -1,8 +1,10 @@
+//! Reactions: what computes the value of a channel.
+
 use crate::expression::Expr;
 use ipdl_base::Name;
 
 /// A reaction: it draws bits, reads channels, and gives a value, or waits for ever.
-#[derive(Debug, Drop)]
+#[derive(Drop)]
 pub enum React {
     /// The value of an expression.
     Ret(Expr),

@@ -1,4 +1,4 @@
-// Terms are equal where they have the same nodes at the same places.
+//! Equality of terms: they are equal if they have the same nodes at the same places.
 
 ghost use Rattle.std.specs.Prelude.{◌≡◌, ◌↔◌, IsTrue};
 ghost use Rattle.ipdl_term.specs.Views.{expression_of, reaction_of, protocol_of, term_of};

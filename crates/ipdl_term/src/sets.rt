@@ -1,3 +1,5 @@
+//! The sets of channels that a term reads and writes.
+
 ghost use Rattle.std.specs.Prelude.{[], ◌∷◌, IfOk};
 ghost use Rattle.ipdl_term.specs.Views.{reaction_of, protocol_of};
 ghost use Rattle.ipdl_term.specs.Channels.{SameSet, reads, must_reads, outputs, free_channels};

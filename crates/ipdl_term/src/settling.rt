@@ -1,8 +1,11 @@
+//! Settling: the outer variables of an argument become variables, counted from the place of the step.
+
 ghost use Rattle.std.specs.Prelude.{◌≡◌, ◌↔◌, ℕ, ◌+◌, ◌^◌, ◌<◌, Option, Some, IfOk};
 ghost use Rattle.ipdl_term.specs.Views.{expression_of, reaction_of, protocol_of, term_of};
 ghost use Rattle.ipdl_term.specs.Sizes.{reaction_binders, protocol_binders, term_binders, greatest_in_term};
 ghost use Rattle.ipdl_term.specs.Variables.{settled_expression, settled_reaction, settled_protocol, settled_term, unsettled_in_expression, unsettled_in_reaction, unsettled_in_protocol, unsettled_number};
 
+use crate::boxing::boxed;
 use crate::expression::Expr;
 use crate::part::Part;
 use crate::protocol::Proto;
@@ -98,29 +101,29 @@ fn settled_expr(alloc: Global, binders: u32, term: &Expr) -> Result<Expr, NoMemo
         Expr::Lit(bits) => Expr::Lit(*bits),
         Expr::Var(n) => Expr::Var(*n),
         Expr::Outer(n) => Expr::Var(binders.saturating_sub(1).saturating_sub(*n)),
-        Expr::Apply(f, e) => Expr::Apply(*f, Box::new(alloc, settled_expr(alloc, binders, e)?)?),
+        Expr::Apply(f, e) => Expr::Apply(*f, boxed(alloc, settled_expr(alloc, binders, e))?),
         Expr::Xor(a, b) => Expr::Xor(
-            Box::new(alloc, settled_expr(alloc, binders, a)?)?,
-            Box::new(alloc, settled_expr(alloc, binders, b)?)?,
+            boxed(alloc, settled_expr(alloc, binders, a))?,
+            boxed(alloc, settled_expr(alloc, binders, b))?,
         ),
         Expr::And(a, b) => Expr::And(
-            Box::new(alloc, settled_expr(alloc, binders, a)?)?,
-            Box::new(alloc, settled_expr(alloc, binders, b)?)?,
+            boxed(alloc, settled_expr(alloc, binders, a))?,
+            boxed(alloc, settled_expr(alloc, binders, b))?,
         ),
-        Expr::Not(a) => Expr::Not(Box::new(alloc, settled_expr(alloc, binders, a)?)?),
+        Expr::Not(a) => Expr::Not(boxed(alloc, settled_expr(alloc, binders, a))?),
         Expr::Cat(a, b) => Expr::Cat(
-            Box::new(alloc, settled_expr(alloc, binders, a)?)?,
-            Box::new(alloc, settled_expr(alloc, binders, b)?)?,
+            boxed(alloc, settled_expr(alloc, binders, a))?,
+            boxed(alloc, settled_expr(alloc, binders, b))?,
         ),
-        Expr::Cut(i, n, a) => Expr::Cut(*i, *n, Box::new(alloc, settled_expr(alloc, binders, a)?)?),
+        Expr::Cut(i, n, a) => Expr::Cut(*i, *n, boxed(alloc, settled_expr(alloc, binders, a))?),
         Expr::Same(a, b) => Expr::Same(
-            Box::new(alloc, settled_expr(alloc, binders, a)?)?,
-            Box::new(alloc, settled_expr(alloc, binders, b)?)?,
+            boxed(alloc, settled_expr(alloc, binders, a))?,
+            boxed(alloc, settled_expr(alloc, binders, b))?,
         ),
         Expr::Mux(c, a, b) => Expr::Mux(
-            Box::new(alloc, settled_expr(alloc, binders, c)?)?,
-            Box::new(alloc, settled_expr(alloc, binders, a)?)?,
-            Box::new(alloc, settled_expr(alloc, binders, b)?)?,
+            boxed(alloc, settled_expr(alloc, binders, c))?,
+            boxed(alloc, settled_expr(alloc, binders, a))?,
+            boxed(alloc, settled_expr(alloc, binders, b))?,
         ),
     })
 }
@@ -134,15 +137,17 @@ fn settled_react(alloc: Global, binders: u32, term: &React) -> Result<React, NoM
         React::Ret(e) => React::Ret(settled_expr(alloc, binders, e)?),
         React::Flip(w) => React::Flip(*w),
         React::Read(c) => React::Read(c.copy(alloc)?),
-        React::Cond(e, r, s) => React::Cond(
-            settled_expr(alloc, binders, e)?,
-            Box::new(alloc, settled_react(alloc, binders, r)?)?,
-            Box::new(alloc, settled_react(alloc, binders, s)?)?,
-        ),
+        React::Cond(e, r, s) => {
+            let (one, other) = (
+                boxed(alloc, settled_react(alloc, binders, r))?,
+                boxed(alloc, settled_react(alloc, binders, s))?,
+            );
+            React::Cond(settled_expr(alloc, binders, e)?, one, other)
+        }
         React::Bind(w, r, s) => React::Bind(
             *w,
-            Box::new(alloc, settled_react(alloc, binders, r)?)?,
-            Box::new(alloc, settled_react(alloc, binders + 1, s)?)?,
+            boxed(alloc, settled_react(alloc, binders, r))?,
+            boxed(alloc, settled_react(alloc, binders + 1, s))?,
         ),
     })
 }
@@ -156,13 +161,13 @@ fn settled_proto(alloc: Global, binders: u32, proto: &Proto) -> Result<Proto, No
         Proto::Nil => Proto::Nil,
         Proto::Out(c, r) => Proto::Out(c.copy(alloc)?, settled_react(alloc, binders, r)?),
         Proto::Par(p, q) => Proto::Par(
-            Box::new(alloc, settled_proto(alloc, binders, p)?)?,
-            Box::new(alloc, settled_proto(alloc, binders, q)?)?,
+            boxed(alloc, settled_proto(alloc, binders, p))?,
+            boxed(alloc, settled_proto(alloc, binders, q))?,
         ),
         Proto::Hide(c, w, p) => Proto::Hide(
             c.copy(alloc)?,
             *w,
-            Box::new(alloc, settled_proto(alloc, binders, p)?)?,
+            boxed(alloc, settled_proto(alloc, binders, p))?,
         ),
     })
 }

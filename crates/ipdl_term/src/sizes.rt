@@ -1,3 +1,5 @@
+//! Counts of a term: nodes, assignments, depth in print and random bits.
+
 ghost use Rattle.std.specs.Prelude.{◌≡◌};
 ghost use Rattle.ipdl_term.specs.Views.{expression_of, reaction_of, protocol_of, term_of};
 ghost use Rattle.ipdl_term.specs.Sizes.{saturated, expression_nodes, reaction_nodes, protocol_nodes, term_nodes, channel_count, expression_depth, reaction_depth, depth_in, printed_depth};
@@ -10,8 +12,8 @@ use crate::part::Part;
 use crate::protocol::Proto;
 use crate::reaction::React;
 
-// The nodes of an expression.
-pub(crate) fn expr_nodes(term: &Expr) -> u64
+/// How many nodes the expression has. The count stands at the last `u64` where it is larger.
+pub fn expr_nodes(term: &Expr) -> u64
     ensures { result ≡ saturated (expression_nodes (expression_of term.now)) }
 {
     match term {
@@ -27,8 +29,9 @@ pub(crate) fn expr_nodes(term: &Expr) -> u64
     }
 }
 
-// The nodes of a reaction and of its expressions.
-pub(crate) fn react_nodes(term: &React) -> u64
+/// How many nodes the reaction has, with those of its expressions. The count stands at the last
+/// `u64` where it is larger.
+pub fn react_nodes(term: &React) -> u64
     ensures { result ≡ saturated (reaction_nodes (reaction_of term.now)) }
 {
     match term {

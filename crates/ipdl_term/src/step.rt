@@ -1,16 +1,18 @@
+//! The rules with their arguments, and the steps of scripts.
+
 use crate::expression::Expr;
 use crate::part::Part;
 use ipdl_base::{List, Name, Path};
 
 /// The direction of a step: from the left side of a rule or an item to its right side, or back.
-#[derive(Clone, Copy, Debug, PartialEq, Eq)]
+#[derive(Clone, Copy)]
 pub enum Dir {
     Lr,
     Rl,
 }
 
 /// A rule with its arguments. Which terms it relates is said where it is applied.
-#[derive(Debug, Drop)]
+#[derive(Drop)]
 pub enum Rule {
     Beta,
     Eta,
@@ -54,7 +56,7 @@ pub enum Rule {
 }
 
 /// A step of a script. The path is the place in the current term.
-#[derive(Debug, Drop)]
+#[derive(Drop)]
 pub enum Step {
     /// The rule, from its left side to its right side.
     Plain {

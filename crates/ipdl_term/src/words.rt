@@ -1,41 +1,60 @@
-ghost use Rattle.std.specs.Prelude.{◌≡◌, bytes_eq, position};
-ghost use Rattle.ipdl_term.specs.Rules.{rule_word, rule_number};
+//! The words of the rules: the word of a rule, the number of a word, and the rule of a word that
+//! takes no arguments.
+ghost use Rattle.std.specs.Prelude.{◌≡◌, [], IfSome, is_some, bytes_eq, position};
+ghost use Rattle.ipdl_term.specs.Rules.{rule_word, rule_number, rule_arguments, is_plain_word};
+ghost use Rattle.ipdl_term.specs.Steps.{rule_of};
 
 use crate::step::Rule;
 use ipdl_base::Name;
 
-// The table of all rules, by variant and word, in the order of their numbers: the word of a rule,
-// or all words.
+// The table of all rules in the order of their numbers: whether the rule is `plain`, which takes no
+// arguments, or stands `with` some, its variant and its word. It gives the word of a rule, all
+// words, or the plain rule of a text.
 macro_rules! rule_table {
-    ($mode:ident $($rule:expr)?) => {
-        rule_table!(@$mode $($rule)?;
-            (Beta, "beta"), (Eta, "eta"), (Assoc, "assoc"), (Swap, "swap"), (Dropr, "dropr"),
-            (Again, "again"), (Iftrue, "iftrue"), (Iffalse, "iffalse"), (Ifsame, "ifsame"),
-            (Ifbind, "ifbind"), (Mask, "mask"), (Perm, "perm"), (Join, "join"), (Flip0, "flip0"),
-            (Tidy, "tidy"), (Table, "table"), (Lin, "lin"), (Comm, "comm"), (Assocl, "assocl"),
-            (Assocr, "assocr"), (Unit, "unit"), (Newswap, "newswap"), (Scope, "scope"),
-            (Rename, "rename"), (Absorb, "absorb"), (Fold, "fold"), (Subst, "subst"),
-            (Drop, "drop"), (Subsume, "subsume"), (Diverge, "diverge"), (Shape, "shape"))
+    ($mode:ident $($value:expr)?) => {
+        rule_table!(@$mode $($value)?;
+            (plain Beta, "beta"), (plain Eta, "eta"), (plain Assoc, "assoc"), (plain Swap, "swap"),
+            (plain Dropr, "dropr"), (plain Again, "again"), (plain Iftrue, "iftrue"),
+            (plain Iffalse, "iffalse"), (plain Ifsame, "ifsame"), (plain Ifbind, "ifbind"),
+            (with Mask, "mask"), (with Perm, "perm"), (plain Join, "join"), (plain Flip0, "flip0"),
+            (plain Tidy, "tidy"), (with Table, "table"), (with Lin, "lin"), (plain Comm, "comm"),
+            (plain Assocl, "assocl"), (plain Assocr, "assocr"), (plain Unit, "unit"),
+            (plain Newswap, "newswap"), (plain Scope, "scope"), (with Rename, "rename"),
+            (plain Absorb, "absorb"), (with Fold, "fold"), (with Subst, "subst"),
+            (plain Drop, "drop"), (with Subsume, "subsume"), (plain Diverge, "diverge"),
+            (plain Shape, "shape"))
     };
-    (@word $rule:expr; $(($variant:ident, $word:literal)),*) => {
+    (@word $rule:expr; $(($kind:ident $variant:ident, $word:literal)),*) => {
         match $rule {
             $(Rule::$variant { .. } => $word,)*
         }
     };
-    (@all; $(($variant:ident, $word:literal)),*) => {
+    (@all; $(($kind:ident $variant:ident, $word:literal)),*) => {
         [$($word),*]
+    };
+    (@plain_of $text:expr; $(($kind:ident $variant:ident, $word:literal)),*) => {
+        match $text {
+            $($word => rule_table!(@one $kind $variant),)*
+            _ => None,
+        }
+    };
+    (@one plain $variant:ident) => {
+        Some(Rule::$variant)
+    };
+    (@one with $variant:ident) => {
+        None
     };
 }
 
 /// The word of a rule, in small letters.
 pub fn rule_word(rule: &Rule) -> &str
-    ensures { result.now ≡ rule_word rule.now }
+    ensures { result.now ≡ rule_word (rule_of rule.now) }
 {
     rule_table!(word rule)
 }
 
 // Where the text stands first among the words.
-fn place_of(words: &[&str], text: &str) -> Option<usize>
+fn index_of(words: &[&str], text: &str) -> Option<usize>
     ensures { result ≡ position (λ word. bytes_eq word.now text.now) words.now }
 {
     words.iter().position(|word| *word == text)
@@ -46,6 +65,15 @@ pub fn rule_number(word: &Name) -> Option<u8>
     ensures { result ≡ rule_number word.now }
 {
     let words = rule_table!(all);
-    let number = place_of(&words, word.text())?;
+    let number = index_of(&words, word.text())?;
     Some(number as u8)
+}
+
+/// The rule of this word, if it is the word of a rule that takes no arguments.
+pub fn plain_rule(word: &Name) -> Option<Rule>
+    ensures word { IfSome result (λ rule. rule_word (rule_of rule) ≡ word.now) }
+    ensures alone { IfSome result (λ rule. rule_arguments (rule_of rule) ≡ []) }
+    ensures plain { is_some result ≡ is_plain_word word.now }
+{
+    rule_table!(plain_of word.text())
 }

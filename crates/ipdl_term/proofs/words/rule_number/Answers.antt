@@ -4,11 +4,11 @@ use Rattle.ipdl_term.proofs.words.rule_number.Goals as goal
 
 pub returns : goal.returns
 unfolding rule_words
-returns c = sym c.in_ok-number.was ∙ c.place_of.ensures ∙ ap rule_number c.text.ensures.value
+returns c = sym c.in_ok-number.was ∙ c.index_of.ensures ∙ ap rule_number c.text.ensures.value
 
 pub returns-in_err-number : goal.returns-in_err-number
 unfolding rule_words
 returns-in_err-number c =
-    let found : c.place_of.result ≡ rule_number c.args.word.now = c.place_of.ensures ∙ ap rule_number c.text.ensures.value in
+    let found : c.index_of.result ≡ rule_number c.args.word.now = c.index_of.ensures ∙ ap rule_number c.text.ensures.value in
     let none : c.from_residual.result ≡ None = search rules in
     none ∙ sym c.in_err-number.was ∙ found

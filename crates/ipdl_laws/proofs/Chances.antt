@@ -28,7 +28,7 @@ module _ (J : Interpretation) where
   -- ---- from tapes to chances
 
   -- the first bits, where the tape begins with so many
-  first_bits_of_append : (u t : List Bool) → first_bits (length u) (u ++ t) ≡ Some (u, t)
+  pub first_bits_of_append : (u t : List Bool) → first_bits (length u) (u ++ t) ≡ Some (u, t)
   first_bits_of_append [] t = refl
   first_bits_of_append (b ∷ u) t = ap (with_bit b) (first_bits_of_append u t)
 

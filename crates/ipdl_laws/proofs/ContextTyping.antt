@@ -7,10 +7,9 @@ use Rattle.ipdl_term.specs.Equality.{Equal}
 use Rattle.ipdl_term.specs.Interpretations.{Signature}
 use Rattle.ipdl_term.specs.Protocols.{coins, written}
 use Rattle.ipdl_term.specs.Terms.{Channel, Protocol, Context, hole, in_left, in_right, in_hiding}
-use Rattle.ipdl_term.specs.Typing.{Scope, scope_with, IsTyped, Typed}
-use Rattle.ipdl_laws.specs.Places.{part_at, context_at, hole_scope}
+use Rattle.ipdl_term.specs.Typing.{Scope, scope_with, IsTyped}
+use Rattle.ipdl_laws.specs.Holes.{hole_scope}
 use Rattle.ipdl_laws.proofs.Contexts.{plugged-nested, outputs-plugged}
-use Rattle.ipdl_laws.proofs.PlaceLaws.{plugged_at}
 use Rattle.ipdl_laws.proofs.RuleTyping.{IsTyped_agree}
 use Rattle.ipdl_laws.proofs.Sets.{by_test, if-true, if-false, union_same_left, union_same_right, without_same, AreDisjoint_same, AreDisjoint_swap}
 use Rattle.ipdl_laws.proofs.Visible.{free_channels_visible}
@@ -59,7 +58,7 @@ module _ (sig : Signature) where
       (h.0, IsTyped-plugged E p inner written (scope_with c w scope) typed same h.1, outputs-plugged E p written same c ∙ h.2)
 
   -- a context in which a protocol is typed is typed, with a hole for what is visible there
-  IsTypedContext_of_plugged : (C : Context) (p : Protocol) (inner : Scope) (written : List Channel) (scope : Scope) → SameSet (outputs p) written → IsVisibleIn inner (hole_scope C scope) → IsTyped sig scope (plugged C p) → IsTypedContext sig inner written scope C
+  pub IsTypedContext_of_plugged : (C : Context) (p : Protocol) (inner : Scope) (written : List Channel) (scope : Scope) → SameSet (outputs p) written → IsVisibleIn inner (hole_scope C scope) → IsTyped sig scope (plugged C p) → IsTypedContext sig inner written scope C
   IsTypedContext_of_plugged hole p inner written scope same visible typed = visible
   IsTypedContext_of_plugged (in_left C q) p inner written scope same visible typed =
       (IsTypedContext_of_plugged C p inner written scope same visible typed.0, typed.1, AreDisjoint_same (outputs (plugged C p)) (context_outputs C written) (outputs q) (outputs-plugged C p written same) typed.2)
@@ -123,12 +122,3 @@ module _ (sig : Signature) (E : Context) (inner : Scope) (inner_written : List C
         equal.counts J interprets (nested C E) (Closes-nested C closes) n enough_p enough_q h ∙
         ap (λ x. history_count J x n h) at_q;
   }
-
--- a part replaced by an equal one, in an interface that is visible at the hole, leaves the whole equal
-pub equal_at_place : (sig : Signature) (scope : Scope) (written : List Channel) (inner : Scope) (inner_written : List Channel) (whole : Protocol) (place : List ℕ) (C : Context) (p q : Protocol) →
-    Typed sig scope whole written → context_at whole place ≡ Some C → part_at whole place ≡ Some p → IsVisibleIn inner (hole_scope C scope) → Equal sig inner inner_written p q → Equal sig scope written whole (plugged C q)
-equal_at_place sig scope written inner inner_written whole place C p q typed around at visible equal =
-    let is_plugged = plugged_at whole place C p around at in
-    let typed_C = IsTypedContext_of_plugged sig C p inner inner_written scope equal.left.writes visible (subst (IsTyped sig scope) is_plugged typed.typed) in
-    let same : SameSet (context_outputs C inner_written) written = λ c. sym (outputs-plugged C p inner_written equal.left.writes c) ∙ ap (λ x. has (outputs x) c) (sym is_plugged) ∙ typed.writes c in
-    subst (λ x. Equal sig scope written x (plugged C q)) (sym is_plugged) (equal_in_context sig C inner inner_written scope written typed_C same p q equal)

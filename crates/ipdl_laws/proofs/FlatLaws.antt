@@ -14,7 +14,7 @@ use Rattle.ipdl_term.specs.Typing.{Scope, scope_with, IsTyped}
 use Rattle.ipdl_term.specs.Valuations.{Valuation, nothing, only, combined, taken_out, all_taken_out, LiesWithin}
 use Rattle.ipdl_term.specs.Variables.{first_number}
 use Rattle.ipdl_laws.specs.Alike.{IsMonotone}
-use Rattle.ipdl_laws.specs.Flat.{assignment_count, writer_number, Names, no_names, names_within, names_without, nodes_from, network, value_of, value_at, flat_round, after_flat_rounds, flat_written, written_by, flat_valuation}
+use Rattle.ipdl_laws.specs.Flat.{assignment_count, writer_number, Writers, no_writers, writers_within, writers_without, nodes_from, network, value_of, value_at, flat_round, after_flat_rounds, flat_written, written_by, flat_valuation}
 use Rattle.ipdl_laws.specs.ReactionTotals.{outcome_value}
 use Rattle.ipdl_laws.proofs.FurtherBits.{outcome_value_of_coins, protocol_valuation_of_coins}
 use Rattle.ipdl_laws.proofs.Monotone.{WritesOnly-written, WritesOnly-round, WritesOnly-protocol_valuation, LiesWithin-round, IsMonotone-protocol_valuation, reaction_is_monotone}
@@ -46,49 +46,49 @@ value_grows : (n : ℕ) (o o' : Option Value) → ((v : Value) → o ≡ Some v 
 value_grows n o o' h d v = if_grows (same_channel (key n) d) o o' None None h (λ w e. e) v
 
 -- the value of an outcome that is extended
-outcome_value_grows : (o o' : Outcome) → ((x : Value × List Bool) → o ≡ Some x → o' ≡ Some x) → (v : Value) → outcome_value o ≡ Some v → outcome_value o' ≡ Some v
+pub outcome_value_grows : (o o' : Outcome) → ((x : Value × List Bool) → o ≡ Some x → o' ≡ Some x) → (v : Value) → outcome_value o ≡ Some v → outcome_value o' ≡ Some v
 outcome_value_grows None o' h v e = cc
 outcome_value_grows (Some x) o' h v e = ap outcome_value (h x refl) ∙ e
 
 module _ (J : Interpretation) (tape : List Bool) where
-  -- what the assignments of a part write, by number, from what all wrote before; names that lead to no number are looked
-  -- up outside
-  abbrev part_step : Protocol → ℕ → ℕ → Names → Valuation → Valuation → Valuation
-  part_step nil n b names outside before = nothing
-  part_step (assignment c r) n b names outside before =
-      at_key n (outcome_value (reaction_outcome J r [] (λ d. seen n (names_within (assignment c r) n names d) before (outside d)) (take (reaction_coins r) (drop b tape))))
-  part_step (parallel p q) n b names outside before =
-      combined (keys n (assignment_count p)) (part_step p n b (names_within (parallel p q) n names) outside before)
-      (part_step q (n + assignment_count p) (b + coins p) (names_within (parallel p q) n names) outside before)
-  part_step (hiding c w p) n b names outside before = part_step p n b (names_without c names) outside before
+  -- what the assignments of a part write, by number, from what all wrote before; channels that no assignment writes are
+  -- looked up outside
+  abbrev part_step : Protocol → ℕ → ℕ → Writers → Valuation → Valuation → Valuation
+  part_step nil n b writers outside before = nothing
+  part_step (assignment c r) n b writers outside before =
+      at_key n (outcome_value (reaction_outcome J r [] (λ d. seen n (writers_within (assignment c r) n writers d) before (outside d)) (take (reaction_coins r) (drop b tape))))
+  part_step (parallel p q) n b writers outside before =
+      combined (keys n (assignment_count p)) (part_step p n b (writers_within (parallel p q) n writers) outside before)
+      (part_step q (n + assignment_count p) (b + coins p) (writers_within (parallel p q) n writers) outside before)
+  part_step (hiding c w p) n b writers outside before = part_step p n b (writers_without c writers) outside before
 
   -- a part writes its own numbers alone
-  WritesOnly-part_step : (p : Protocol) (n b : ℕ) (names : Names) (outside before : Valuation) → WritesOnly (keys n (assignment_count p)) (part_step p n b names outside before)
-  WritesOnly-part_step nil n b names outside before d h = refl
-  WritesOnly-part_step (assignment c r) n b names outside before d h = if-false (same_channel (key n) d) _ _ (or_parts (same_channel (key n) d) false h).0
-  WritesOnly-part_step (parallel p q) n b names outside before d h =
+  WritesOnly-part_step : (p : Protocol) (n b : ℕ) (writers : Writers) (outside before : Valuation) → WritesOnly (keys n (assignment_count p)) (part_step p n b writers outside before)
+  WritesOnly-part_step nil n b writers outside before d h = refl
+  WritesOnly-part_step (assignment c r) n b writers outside before d h = if-false (same_channel (key n) d) _ _ (or_parts (same_channel (key n) d) false h).0
+  WritesOnly-part_step (parallel p q) n b writers outside before d h =
       let both = or_parts (has (keys n (assignment_count p)) d) (has (keys (n + assignment_count p) (assignment_count q)) d) (sym (has-keys_add n (assignment_count p) (assignment_count q) d) ∙ h) in
-      if-false (has (keys n (assignment_count p)) d) _ _ both.0 ∙ WritesOnly-part_step q (n + assignment_count p) (b + coins p) (names_within (parallel p q) n names) outside before d both.1
-  WritesOnly-part_step (hiding c w p) n b names outside before d h = WritesOnly-part_step p n b (names_without c names) outside before d h
+      if-false (has (keys n (assignment_count p)) d) _ _ both.0 ∙ WritesOnly-part_step q (n + assignment_count p) (b + coins p) (writers_within (parallel p q) n writers) outside before d both.1
+  WritesOnly-part_step (hiding c w p) n b writers outside before d h = WritesOnly-part_step p n b (writers_without c writers) outside before d h
 
   -- a part writes more of more
-  part_step_grows : (p : Protocol) (n b : ℕ) (names : Names) (x x' u u' : Valuation) → LiesWithin x x' → LiesWithin u u' → LiesWithin (part_step p n b names x u) (part_step p n b names x' u')
-  part_step_grows nil n b names x x' u u' h k = LiesWithin-nothing nothing
-  part_step_grows (assignment c r) n b names x x' u u' h k =
-      value_grows n _ _ (outcome_value_grows _ _ (reaction_is_monotone J r [] _ _ (take (reaction_coins r) (drop b tape)) (λ d. seen_grows n (names_within (assignment c r) n names d) u u' (x d) (x' d) k (h d))))
-  part_step_grows (parallel p q) n b names x x' u u' h k =
+  part_step_grows : (p : Protocol) (n b : ℕ) (writers : Writers) (x x' u u' : Valuation) → LiesWithin x x' → LiesWithin u u' → LiesWithin (part_step p n b writers x u) (part_step p n b writers x' u')
+  part_step_grows nil n b writers x x' u u' h k = LiesWithin-nothing nothing
+  part_step_grows (assignment c r) n b writers x x' u u' h k =
+      value_grows n _ _ (outcome_value_grows _ _ (reaction_is_monotone J r [] _ _ (take (reaction_coins r) (drop b tape)) (λ d. seen_grows n (writers_within (assignment c r) n writers d) u u' (x d) (x' d) k (h d))))
+  part_step_grows (parallel p q) n b writers x x' u u' h k =
       LiesWithin-combined (keys n (assignment_count p)) _ _ _ _ (part_step_grows p n b _ x x' u u' h k) (part_step_grows q (n + assignment_count p) (b + coins p) _ x x' u u' h k)
-  part_step_grows (hiding c w p) n b names x x' u u' h k = part_step_grows p n b (names_without c names) x x' u u' h k
+  part_step_grows (hiding c w p) n b writers x x' u u' h k = part_step_grows p n b (writers_without c writers) x x' u u' h k
 
   -- a name of a parallel protocol, seen from its first or second part
-  within_first : (p q : Protocol) (n : ℕ) (names : Names) (c : Channel) → has (outputs p) c ≡ false → names_within (parallel p q) n names c ≡ first_number (writer_number q (n + assignment_count p) c) (names c)
-  within_first p q n names c h = ap (λ o. first_number (first_number o (writer_number q (n + assignment_count p) c)) (names c)) (writer_number_none p n c h)
+  within_first : (p q : Protocol) (n : ℕ) (writers : Writers) (c : Channel) → has (outputs p) c ≡ false → writers_within (parallel p q) n writers c ≡ first_number (writer_number q (n + assignment_count p) c) (writers c)
+  within_first p q n writers c h = ap (λ o. first_number (first_number o (writer_number q (n + assignment_count p) c)) (writers c)) (writer_number_none p n c h)
 
-  within_second : (p q : Protocol) (n : ℕ) (names : Names) (c : Channel) → has (outputs q) c ≡ false → names_within (parallel p q) n names c ≡ first_number (writer_number p n c) (names c)
-  within_second p q n names c h =
-      ap (λ o. first_number (first_number (writer_number p n c) o) (names c)) (writer_number_none q (n + assignment_count p) c h) ∙ go (writer_number p n c)
+  within_second : (p q : Protocol) (n : ℕ) (writers : Writers) (c : Channel) → has (outputs q) c ≡ false → writers_within (parallel p q) n writers c ≡ first_number (writer_number p n c) (writers c)
+  within_second p q n writers c h =
+      ap (λ o. first_number (first_number (writer_number p n c) o) (writers c)) (writer_number_none q (n + assignment_count p) c h) ∙ go (writer_number p n c)
     where
-      go : (o : Option ℕ) → first_number (first_number o None) (names c) ≡ first_number o (names c)
+      go : (o : Option ℕ) → first_number (first_number o None) (writers c) ≡ first_number o (writers c)
       go None = refl
       go (Some m) = refl
 
@@ -98,22 +98,22 @@ module _ (J : Interpretation) (tape : List Bool) where
   seen_same k (Some m) a a' u u' x x' h l = ap (λ (z : Option Value). if nat_eq m k then None else z) (h m refl)
 
   -- a part does the same where it sees the same of what it does not write, and the same of its own numbers
-  part_step_agree : (sig : Signature) (scope : Scope) (p : Protocol) → IsTyped sig scope p → (n b : ℕ) (names names' : Names) (x x' u u' : Valuation) →
-      ((c : Channel) → has (outputs p) c ≡ false → (k : ℕ) → has (keys n (assignment_count p)) (key k) ≡ true → seen k (names c) u (x c) ≡ seen k (names' c) u' (x' c)) →
+  part_step_agree : (sig : Signature) (scope : Scope) (p : Protocol) → IsTyped sig scope p → (n b : ℕ) (writers writers' : Writers) (x x' u u' : Valuation) →
+      ((c : Channel) → has (outputs p) c ≡ false → (k : ℕ) → has (keys n (assignment_count p)) (key k) ≡ true → seen k (writers c) u (x c) ≡ seen k (writers' c) u' (x' c)) →
       ((d : Channel) → has (keys n (assignment_count p)) d ≡ true → u d ≡ u' d) →
-      part_step p n b names x u ≡ part_step p n b names' x' u'
-  part_step_agree sig scope nil typed n b names names' x x' u u' h l = refl
-  part_step_agree sig scope (assignment c r) typed n b names names' x x' u u' h l =
+      part_step p n b writers x u ≡ part_step p n b writers' x' u'
+  part_step_agree sig scope nil typed n b writers writers' x x' u u' h l = refl
+  part_step_agree sig scope (assignment c r) typed n b writers writers' x x' u u' h l =
       ap (λ i. at_key n (outcome_value (reaction_outcome J r [] i (take (reaction_coins r) (drop b tape))))) (fun_ext (λ d. by_test (same_channel c d)
-      (λ e. own d e names u (x d) ∙ sym (own d e names' u' (x' d)))
-      (λ e. other d e names u (x d) ∙ h d (has-single c d ∙ e) n (has-keys n 1 n (omega arith) (omega arith)) ∙ sym (other d e names' u' (x' d)))))
+      (λ e. own d e writers u (x d) ∙ sym (own d e writers' u' (x' d)))
+      (λ e. other d e writers u (x d) ∙ h d (has-single c d ∙ e) n (has-keys n 1 n (omega arith) (omega arith)) ∙ sym (other d e writers' u' (x' d)))))
     where
-      own : (d : Channel) → same_channel c d ≡ true → (a : Names) (v : Valuation) (y : Option Value) → seen n (names_within (assignment c r) n a d) v y ≡ None
+      own : (d : Channel) → same_channel c d ≡ true → (a : Writers) (v : Valuation) (y : Option Value) → seen n (writers_within (assignment c r) n a d) v y ≡ None
       own d e a v y = ap (λ o. seen n (first_number o (a d)) v y) (if-true (same_channel c d) _ _ e) ∙ if-true (nat_eq n n) _ _ (nat_eq_self n)
 
-      other : (d : Channel) → same_channel c d ≡ false → (a : Names) (v : Valuation) (y : Option Value) → seen n (names_within (assignment c r) n a d) v y ≡ seen n (a d) v y
+      other : (d : Channel) → same_channel c d ≡ false → (a : Writers) (v : Valuation) (y : Option Value) → seen n (writers_within (assignment c r) n a d) v y ≡ seen n (a d) v y
       other d e a v y = ap (λ o. seen n (first_number o (a d)) v y) (if-false (same_channel c d) _ _ e)
-  part_step_agree sig scope (parallel p q) typed n b names names' x x' u u' h l =
+  part_step_agree sig scope (parallel p q) typed n b writers writers' x x' u u' h l =
       let number_q = n + assignment_count p in
       let first : (d : Channel) → has (keys n (assignment_count p)) d ≡ true → has (keys n (assignment_count p + assignment_count q)) d ≡ true =
       λ d k. has-keys_add n (assignment_count p) (assignment_count q) d ∙ or_left (has (keys n (assignment_count p)) d) (has (keys number_q (assignment_count q)) d) k in
@@ -121,20 +121,20 @@ module _ (J : Interpretation) (tape : List Bool) where
       λ d k. has-keys_add n (assignment_count p) (assignment_count q) d ∙ or_right (has (keys n (assignment_count p)) d) (has (keys number_q (assignment_count q)) d) k in
       ap₂ (combined (keys n (assignment_count p)))
       (part_step_agree sig scope p typed.0 n b _ _ x x' u u'
-      (λ c not_p k own. ap (λ o. seen k o u (x c)) (within_first p q n names c not_p) ∙
-      seen_same k (writer_number q number_q c) (names c) (names' c) u u' (x c) (x' c)
+      (λ c not_p k own. ap (λ o. seen k o u (x c)) (within_first p q n writers c not_p) ∙
+      seen_same k (writer_number q number_q c) (writers c) (writers' c) u u' (x c) (x' c)
       (λ m e. l (key m) (second (key m) (writer_number_own q number_q c m e)))
       (λ e. h c (has-union (outputs p) (outputs q) c ∙ or_from (has (outputs p) c) (has (outputs q) c) not_p (sym (is_some-writer_number q number_q c) ∙ ap is_some e)) k (first (key k) own)) ∙
-      sym (ap (λ o. seen k o u' (x' c)) (within_first p q n names' c not_p)))
+      sym (ap (λ o. seen k o u' (x' c)) (within_first p q n writers' c not_p)))
       (λ d k. l d (first d k)))
       (part_step_agree sig scope q typed.1 number_q (b + coins p) _ _ x x' u u'
-      (λ c not_q k own. ap (λ o. seen k o u (x c)) (within_second p q n names c not_q) ∙
-      seen_same k (writer_number p n c) (names c) (names' c) u u' (x c) (x' c)
+      (λ c not_q k own. ap (λ o. seen k o u (x c)) (within_second p q n writers c not_q) ∙
+      seen_same k (writer_number p n c) (writers c) (writers' c) u u' (x c) (x' c)
       (λ m e. l (key m) (first (key m) (writer_number_own p n c m e)))
       (λ e. h c (has-union (outputs p) (outputs q) c ∙ or_from (has (outputs p) c) (has (outputs q) c) (sym (is_some-writer_number p n c) ∙ ap is_some e) not_q) k (second (key k) own)) ∙
-      sym (ap (λ o. seen k o u' (x' c)) (within_second p q n names' c not_q)))
+      sym (ap (λ o. seen k o u' (x' c)) (within_second p q n writers' c not_q)))
       (λ d k. l d (second d k)))
-  part_step_agree sig scope (hiding c w p) typed n b names names' x x' u u' h l =
+  part_step_agree sig scope (hiding c w p) typed n b writers writers' x x' u u' h l =
       part_step_agree sig (scope_with c w scope) p typed.1 n b _ _ x x' u u'
       (λ d not_p k own. by_test (same_channel c d)
       (λ e. not_both (has (outputs p) d) (at_same_channel (λ y. has (outputs p) y ≡ true) c d e typed.2) not_p)
@@ -145,7 +145,7 @@ module _ (J : Interpretation) (tape : List Bool) where
 
   -- what the assignments of a part alone write in the end
   abbrev alone : Protocol → ℕ → ℕ → Valuation → Valuation
-  alone p n b outside = solution (keys n (assignment_count p)) (part_step p n b no_names outside)
+  alone p n b outside = solution (keys n (assignment_count p)) (part_step p n b no_writers outside)
 
   -- the value that a number leads to
   abbrev led_to : Option ℕ → Valuation → Option Value
@@ -196,7 +196,7 @@ module _ (J : Interpretation) (tape : List Bool) where
   alone-assignment : (c : Channel) (r : Reaction) (n b : ℕ) (x : Valuation) → protocol_valuation J (assignment c r) (drop b tape) x ≡ shown (assignment c r) n (alone (assignment c r) n b x)
   alone-assignment c r n b x =
       let value = outcome_value (reaction_outcome J r [] (all_taken_out (c ∷ []) x) (drop b tape)) in
-      let step : (u : Valuation) → part_step (assignment c r) n b no_names x u ≡ at_key n value = λ u.
+      let step : (u : Valuation) → part_step (assignment c r) n b no_writers x u ≡ at_key n value = λ u.
       ap (λ i. at_key n (outcome_value (reaction_outcome J r [] i (take (reaction_coins r) (drop b tape))))) (fun_ext (λ d. by_test (same_channel c d)
       (λ e. ap (λ o. seen n (first_number o None) u (x d)) (if-true (same_channel c d) _ _ e) ∙ if-true (nat_eq n n) _ _ (nat_eq_self n) ∙ sym (if-true (has (c ∷ []) d) _ _ (has-single c d ∙ e)))
       (λ e. ap (λ o. seen n (first_number o None) u (x d)) (if-false (same_channel c d) _ _ e) ∙ sym (if-false (has (c ∷ []) d) _ _ (has-single c d ∙ e))))) ∙
@@ -215,8 +215,8 @@ module _ (J : Interpretation) (tape : List Bool) where
   alone-hiding : (sig : Signature) (scope : Scope) (c : Channel) (w : ℕ) (p : Protocol) → IsTyped sig scope (hiding c w p) → (n b : ℕ) (x : Valuation) →
       (protocol_valuation J p (drop b tape) (taken_out c x) ≡ shown p n (alone p n b (taken_out c x))) → protocol_valuation J (hiding c w p) (drop b tape) x ≡ shown (hiding c w p) n (alone (hiding c w p) n b x)
   alone-hiding sig scope c w p typed n b x ih =
-      let step : part_step p n b (names_without c no_names) x ≡ part_step p n b no_names (taken_out c x) = fun_ext (λ u.
-      part_step_agree sig (scope_with c w scope) p typed.1 n b (names_without c no_names) no_names x (taken_out c x) u u
+      let step : part_step p n b (writers_without c no_writers) x ≡ part_step p n b no_writers (taken_out c x) = fun_ext (λ u.
+      part_step_agree sig (scope_with c w scope) p typed.1 n b (writers_without c no_writers) no_writers x (taken_out c x) u u
       (λ d not_p k own. by_test (same_channel c d)
       (λ e. not_both (has (outputs p) d) (at_same_channel (λ y. has (outputs p) y ≡ true) c d e typed.2) not_p)
       (λ e. ap (λ o. seen k o u (x d)) (if-false (same_channel c d) _ _ e) ∙ sym (if-false (same_channel c d) _ _ e)))
@@ -266,7 +266,7 @@ module _ (J : Interpretation) (tape : List Bool) (sig : Signature) (scope : Scop
   to_q u = combined (outputs p) (shown J tape p n u) x
 
   abbrev both : Valuation → Valuation
-  both u = combined keys_p (part_step J tape p n b no_names (to_p u) u) (part_step J tape q number_q bit_q no_names (to_q u) u)
+  both u = combined keys_p (part_step J tape p n b no_writers (to_p u) u) (part_step J tape q number_q bit_q no_writers (to_q u) u)
 
   -- a partner's number, looked up by name or by output
   seen_through : (r : Protocol) (m k : ℕ) (cs : List Channel) (u : Valuation) (c : Channel) → AreDisjoint cs (keys m (assignment_count r)) → has cs (key k) ≡ true → seen k (first_number (writer_number r m c) None) u (x c) ≡ combined (outputs r) (shown J tape r m u) x c
@@ -277,13 +277,13 @@ module _ (J : Interpretation) (tape : List Bool) (sig : Signature) (scope : Scop
       go (Some y) e l = if-false (nat_eq y k) _ _ (nat_eq_apart cs (keys m (assignment_count r)) y k apart own (writer_number_own r m c y e)) ∙ sym (if-true (has (outputs r) c) _ _ (sym l))
 
   -- a step of all assignments is one of both parts
-  step_is_both : (u : Valuation) → part_step J tape (parallel p q) n b no_names x u ≡ both u
+  step_is_both : (u : Valuation) → part_step J tape (parallel p q) n b no_writers x u ≡ both u
   step_is_both u = ap₂ (combined keys_p)
-      (part_step_agree J tape sig scope p typed.0 n b _ no_names x (to_p u) u u
-      (λ c not_p k own. ap (λ o. seen k o u (x c)) (within_first J tape p q n no_names c not_p) ∙ seen_through q number_q k keys_p u c (AreDisjoint-keys n (assignment_count p) (assignment_count q)) own)
+      (part_step_agree J tape sig scope p typed.0 n b _ no_writers x (to_p u) u u
+      (λ c not_p k own. ap (λ o. seen k o u (x c)) (within_first J tape p q n no_writers c not_p) ∙ seen_through q number_q k keys_p u c (AreDisjoint-keys n (assignment_count p) (assignment_count q)) own)
       (λ d own. refl))
-      (part_step_agree J tape sig scope q typed.1 number_q bit_q _ no_names x (to_q u) u u
-      (λ c not_q k own. ap (λ o. seen k o u (x c)) (within_second J tape p q n no_names c not_q) ∙ seen_through p n k keys_q u c (AreDisjoint_swap keys_p keys_q (AreDisjoint-keys n (assignment_count p) (assignment_count q))) own)
+      (part_step_agree J tape sig scope q typed.1 number_q bit_q _ no_writers x (to_q u) u u
+      (λ c not_q k own. ap (λ o. seen k o u (x c)) (within_second J tape p q n no_writers c not_q) ∙ seen_through p n k keys_q u c (AreDisjoint_swap keys_p keys_q (AreDisjoint-keys n (assignment_count p) (assignment_count q))) own)
       (λ d own. refl))
 
   -- what all assignments write in the end
@@ -294,24 +294,24 @@ module _ (J : Interpretation) (tape : List Bool) (sig : Signature) (scope : Scop
   result = alone J tape (parallel p q) n b x
 
   abbrev step : Valuation → Valuation
-  step = part_step J tape (parallel p q) n b no_names x
+  step = part_step J tape (parallel p q) n b no_writers x
 
   mono_step : IsMonotone step
-  mono_step u u' h = part_step_grows J tape (parallel p q) n b no_names x x u u' (LiesWithin-refl x) h
+  mono_step u u' h = part_step_grows J tape (parallel p q) n b no_writers x x u u' (LiesWithin-refl x) h
 
   both_fixed : both result ≡ result
-  both_fixed = sym (step_is_both result) ∙ solution-fixed all_keys step mono_step (WritesOnly-part_step J tape (parallel p q) n b no_names x)
+  both_fixed = sym (step_is_both result) ∙ solution-fixed all_keys step mono_step (WritesOnly-part_step J tape (parallel p q) n b no_writers x)
 
   -- each part alone writes no more than that
   alone_p_within : LiesWithin (alone J tape p n b (to_p result)) result
   alone_p_within =
-      solution-least keys_p (part_step J tape p n b no_names (to_p result)) (λ u u' h. part_step_grows J tape p n b no_names _ _ u u' (LiesWithin-refl (to_p result)) h) (WritesOnly-part_step J tape p n b no_names (to_p result)) result
-      (LiesWithin-trans _ _ _ (LiesWithin_combined_first J tape keys_p _ _ (WritesOnly-part_step J tape p n b no_names (to_p result) result)) (LiesWithin_equal _ _ both_fixed))
+      solution-least keys_p (part_step J tape p n b no_writers (to_p result)) (λ u u' h. part_step_grows J tape p n b no_writers _ _ u u' (LiesWithin-refl (to_p result)) h) (WritesOnly-part_step J tape p n b no_writers (to_p result)) result
+      (LiesWithin-trans _ _ _ (LiesWithin_combined_first J tape keys_p _ _ (WritesOnly-part_step J tape p n b no_writers (to_p result) result)) (LiesWithin_equal _ _ both_fixed))
 
   alone_q_within : LiesWithin (alone J tape q number_q bit_q (to_q result)) result
   alone_q_within =
-      solution-least keys_q (part_step J tape q number_q bit_q no_names (to_q result)) (λ u u' h. part_step_grows J tape q number_q bit_q no_names _ _ u u' (LiesWithin-refl (to_q result)) h) (WritesOnly-part_step J tape q number_q bit_q no_names (to_q result)) result
-      (LiesWithin-trans _ _ _ (LiesWithin_combined_second J tape keys_p keys_q _ _ (AreDisjoint-keys n (assignment_count p) (assignment_count q)) (WritesOnly-part_step J tape q number_q bit_q no_names (to_q result) result)) (LiesWithin_equal _ _ both_fixed))
+      solution-least keys_q (part_step J tape q number_q bit_q no_writers (to_q result)) (λ u u' h. part_step_grows J tape q number_q bit_q no_writers _ _ u u' (LiesWithin-refl (to_q result)) h) (WritesOnly-part_step J tape q number_q bit_q no_writers (to_q result)) result
+      (LiesWithin-trans _ _ _ (LiesWithin_combined_second J tape keys_p keys_q _ _ (AreDisjoint-keys n (assignment_count p) (assignment_count q)) (WritesOnly-part_step J tape q number_q bit_q no_writers (to_q result) result)) (LiesWithin_equal _ _ both_fixed))
 
   -- the outputs of both, and the inputs without them
   abbrev all_outputs : List Channel
@@ -402,18 +402,18 @@ module _ (J : Interpretation) (tape : List Bool) (sig : Signature) (scope : Scop
       let to_p_is : to_p numbers ≡ combined (outputs q) nested_result x = sym (seen_by_p numbers) ∙ ap (λ s. combined (outputs q) s x) numbers_show in
       let to_q_is : to_q numbers ≡ combined (outputs p) nested_result x = sym (seen_by_q numbers) ∙ ap (λ s. combined (outputs p) s x) numbers_show in
       ap₂ (combined keys_p)
-      (ap (λ y. part_step J tape p n b no_names y numbers) to_p_is ∙
-      part_step_agree J tape sig scope p typed.0 n b no_names no_names (combined (outputs q) nested_result x) (combined (outputs q) nested_result x) numbers numbers_p (λ c not_p k own. refl) numbers_at_p ∙
-      solution-fixed keys_p (part_step J tape p n b no_names (combined (outputs q) nested_result x)) (λ s s' h. part_step_grows J tape p n b no_names _ _ s s' (LiesWithin-refl (combined (outputs q) nested_result x)) h) (WritesOnly-part_step J tape p n b no_names (combined (outputs q) nested_result x)))
-      (ap (λ y. part_step J tape q number_q bit_q no_names y numbers) to_q_is ∙
-      part_step_agree J tape sig scope q typed.1 number_q bit_q no_names no_names (combined (outputs p) nested_result x) (combined (outputs p) nested_result x) numbers numbers_q (λ c not_q k own. refl) numbers_at_q ∙
-      solution-fixed keys_q (part_step J tape q number_q bit_q no_names (combined (outputs p) nested_result x)) (λ s s' h. part_step_grows J tape q number_q bit_q no_names _ _ s s' (LiesWithin-refl (combined (outputs p) nested_result x)) h) (WritesOnly-part_step J tape q number_q bit_q no_names (combined (outputs p) nested_result x)))
+      (ap (λ y. part_step J tape p n b no_writers y numbers) to_p_is ∙
+      part_step_agree J tape sig scope p typed.0 n b no_writers no_writers (combined (outputs q) nested_result x) (combined (outputs q) nested_result x) numbers numbers_p (λ c not_p k own. refl) numbers_at_p ∙
+      solution-fixed keys_p (part_step J tape p n b no_writers (combined (outputs q) nested_result x)) (λ s s' h. part_step_grows J tape p n b no_writers _ _ s s' (LiesWithin-refl (combined (outputs q) nested_result x)) h) (WritesOnly-part_step J tape p n b no_writers (combined (outputs q) nested_result x)))
+      (ap (λ y. part_step J tape q number_q bit_q no_writers y numbers) to_q_is ∙
+      part_step_agree J tape sig scope q typed.1 number_q bit_q no_writers no_writers (combined (outputs p) nested_result x) (combined (outputs p) nested_result x) numbers numbers_q (λ c not_q k own. refl) numbers_at_q ∙
+      solution-fixed keys_q (part_step J tape q number_q bit_q no_writers (combined (outputs p) nested_result x)) (λ s s' h. part_step_grows J tape q number_q bit_q no_writers _ _ s s' (LiesWithin-refl (combined (outputs p) nested_result x)) h) (WritesOnly-part_step J tape q number_q bit_q no_writers (combined (outputs p) nested_result x)))
 
   -- the flat rounds show no more than the nested ones write
   shown_within : LiesWithin (shown J tape (parallel p q) n result) nested_result
   shown_within =
       LiesWithin-trans _ _ _
-      (LiesWithin-shown J tape (parallel p q) n result numbers (solution-least all_keys step mono_step (WritesOnly-part_step J tape (parallel p q) n b no_names x) numbers (LiesWithin_equal _ _ (step_is_both numbers ∙ numbers_fixed))))
+      (LiesWithin-shown J tape (parallel p q) n result numbers (solution-least all_keys step mono_step (WritesOnly-part_step J tape (parallel p q) n b no_writers x) numbers (LiesWithin_equal _ _ (step_is_both numbers ∙ numbers_fixed))))
       (LiesWithin_equal _ _ numbers_show)
 
   -- two parts side by side
@@ -448,13 +448,13 @@ slice_get-append_right [] ys j = let z : 0 + j ≡ j = omega arith in rw z
 slice_get-append_right (x ∷ xs) ys j = let z : suc (length xs) + j ≡ suc (length xs + j) = omega arith in rw z (slice_get-append_right xs ys j)
 
 -- a node for each assignment
-length-nodes_from : (p : Protocol) (n b : ℕ) (names : Names) → length (nodes_from p n b names) ≡ assignment_count p
-length-nodes_from nil n b names = refl
-length-nodes_from (assignment c r) n b names = refl
-length-nodes_from (parallel p q) n b names =
-    length-append (nodes_from p n b (names_within (parallel p q) n names)) (nodes_from q (n + assignment_count p) (b + coins p) (names_within (parallel p q) n names)) ∙
-    ap₂ (λ x y. x + y) (length-nodes_from p n b (names_within (parallel p q) n names)) (length-nodes_from q (n + assignment_count p) (b + coins p) (names_within (parallel p q) n names))
-length-nodes_from (hiding c w p) n b names = length-nodes_from p n b (names_without c names)
+length-nodes_from : (p : Protocol) (n b : ℕ) (writers : Writers) → length (nodes_from p n b writers) ≡ assignment_count p
+length-nodes_from nil n b writers = refl
+length-nodes_from (assignment c r) n b writers = refl
+length-nodes_from (parallel p q) n b writers =
+    length-append (nodes_from p n b (writers_within (parallel p q) n writers)) (nodes_from q (n + assignment_count p) (b + coins p) (writers_within (parallel p q) n writers)) ∙
+    ap₂ (λ x y. x + y) (length-nodes_from p n b (writers_within (parallel p q) n writers)) (length-nodes_from q (n + assignment_count p) (b + coins p) (writers_within (parallel p q) n writers))
+length-nodes_from (hiding c w p) n b writers = length-nodes_from p n b (writers_without c writers)
 
 module _ (J : Interpretation) (tape : List Bool) where
   -- a number's value, looked up in both ways
@@ -463,18 +463,18 @@ module _ (J : Interpretation) (tape : List Bool) where
   value_of_seen k (Some m) u = refl
 
   -- a step of a part by its nodes
-  part_step_at : (p : Protocol) (n b : ℕ) (names : Names) (u : Valuation) (j : ℕ) → j < assignment_count p → part_step J tape p n b names nothing u (key (n + j)) ≡ value_at J tape (n + j) (slice_get (nodes_from p n b names) j) (λ m. u (key m))
-  part_step_at nil n b names u j h = absurd (omega arith)
-  part_step_at (assignment c r) n b names u zero h =
+  part_step_at : (p : Protocol) (n b : ℕ) (writers : Writers) (u : Valuation) (j : ℕ) → j < assignment_count p → part_step J tape p n b writers nothing u (key (n + j)) ≡ value_at J tape (n + j) (slice_get (nodes_from p n b writers) j) (λ m. u (key m))
+  part_step_at nil n b writers u j h = absurd (omega arith)
+  part_step_at (assignment c r) n b writers u zero h =
       let z : n + zero ≡ n = omega arith in
       rw z (if-true (same_channel (key n) (key n)) _ _ (same_channel-itself (key n)) ∙
-      ap (λ i. outcome_value (reaction_outcome J r [] i (take (reaction_coins r) (drop b tape)))) (fun_ext (λ d. sym (value_of_seen n (names_within (assignment c r) n names d) u))))
-  part_step_at (assignment c r) n b names u (suc j) h = absurd (omega arith)
-  part_step_at (parallel p q) n b names u j h =
+      ap (λ i. outcome_value (reaction_outcome J r [] i (take (reaction_coins r) (drop b tape)))) (fun_ext (λ d. sym (value_of_seen n (writers_within (assignment c r) n writers d) u))))
+  part_step_at (assignment c r) n b writers u (suc j) h = absurd (omega arith)
+  part_step_at (parallel p q) n b writers u j h =
       go (cases_lt j (assignment_count p)) (λ k. part_step_at p n b inside u j k) (λ i k. part_step_at q (n + assignment_count p) (b + coins p) inside u i k)
     where
-      inside : Names
-      inside = names_within (parallel p q) n names
+      inside : Writers
+      inside = writers_within (parallel p q) n writers
 
       go : (j < assignment_count p) ⊎ (assignment_count p ≤ j) → (j < assignment_count p → part_step J tape p n b inside nothing u (key (n + j)) ≡ value_at J tape (n + j) (slice_get (nodes_from p n b inside) j) (λ m. u (key m))) →
           ((i : ℕ) → i < assignment_count q → part_step J tape q (n + assignment_count p) (b + coins p) inside nothing u (key (n + assignment_count p + i)) ≡ value_at J tape (n + assignment_count p + i) (slice_get (nodes_from q (n + assignment_count p) (b + coins p) inside) i) (λ m. u (key m))) →
@@ -495,22 +495,22 @@ module _ (J : Interpretation) (tape : List Bool) where
           ap (λ m. part_step J tape q (n + assignment_count p) (b + coins p) inside nothing u (key m)) number ∙
           of_q i (omega arith) ∙
           ap₂ (λ m o. value_at J tape m o (λ x. u (key x))) (sym number) (sym (ap (slice_get (first ++ rest)) place ∙ slice_get-append_right first rest i))
-  part_step_at (hiding c w p) n b names u j h = part_step_at p n b (names_without c names) u j h
+  part_step_at (hiding c w p) n b writers u j h = part_step_at p n b (writers_without c writers) u j h
 
   -- the rounds of a protocol's assignments are the flat rounds of its network
-  after_rounds_flat : (p : Protocol) (n : ℕ) (k : ℕ) → after_rounds n (part_step J tape p 0 0 no_names nothing) (key k) ≡ after_flat_rounds J (network p) tape n k
+  after_rounds_flat : (p : Protocol) (n : ℕ) (k : ℕ) → after_rounds n (part_step J tape p 0 0 no_writers nothing) (key k) ≡ after_flat_rounds J (network p) tape n k
   after_rounds_flat p zero k = refl
   after_rounds_flat p (suc n) k = go (cases_lt k (assignment_count p)) (after_rounds_flat p n)
     where
-      go : (k < assignment_count p) ⊎ (assignment_count p ≤ k) → ((m : ℕ) → after_rounds n (part_step J tape p 0 0 no_names nothing) (key m) ≡ after_flat_rounds J (network p) tape n m) →
-          part_step J tape p 0 0 no_names nothing (after_rounds n (part_step J tape p 0 0 no_names nothing)) (key k) ≡ flat_round J (network p) tape (after_flat_rounds J (network p) tape n) k
+      go : (k < assignment_count p) ⊎ (assignment_count p ≤ k) → ((m : ℕ) → after_rounds n (part_step J tape p 0 0 no_writers nothing) (key m) ≡ after_flat_rounds J (network p) tape n m) →
+          part_step J tape p 0 0 no_writers nothing (after_rounds n (part_step J tape p 0 0 no_writers nothing)) (key k) ≡ flat_round J (network p) tape (after_flat_rounds J (network p) tape n) k
       go (inl h) before =
           let z : 0 + k ≡ k = omega arith in
-          rw z at (part_step_at p 0 0 no_names (after_rounds n (part_step J tape p 0 0 no_names nothing)) k h) ∙
+          rw z at (part_step_at p 0 0 no_writers (after_rounds n (part_step J tape p 0 0 no_writers nothing)) k h) ∙
           ap (value_at J tape k (slice_get (network p) k)) (fun_ext before)
       go (inr h) before =
-          WritesOnly-part_step J tape p 0 0 no_names nothing (after_rounds n (part_step J tape p 0 0 no_names nothing)) (key k) (has-keys_above 0 (assignment_count p) k (omega arith)) ∙
-          sym (ap (λ o. value_at J tape k o (after_flat_rounds J (network p) tape n)) (slice_get_past (network p) k (omega (arith, length-nodes_from p 0 0 no_names))))
+          WritesOnly-part_step J tape p 0 0 no_writers nothing (after_rounds n (part_step J tape p 0 0 no_writers nothing)) (key k) (has-keys_above 0 (assignment_count p) k (omega arith)) ∙
+          sym (ap (λ o. value_at J tape k o (after_flat_rounds J (network p) tape n)) (slice_get_past (network p) k (omega (arith, length-nodes_from p 0 0 no_writers))))
 
   -- a typed protocol writes at its outputs what the flat rounds of its network write there
   pub flat_valuation_is_nested : (sig : Signature) (scope : Scope) (p : Protocol) → IsTyped sig scope p → protocol_valuation J p tape nothing ≡ flat_valuation J p tape
@@ -520,5 +520,5 @@ module _ (J : Interpretation) (tape : List Bool) where
       go : (o : Option ℕ) → led_to J tape o (alone J tape p 0 0 nothing) ≡ written_by o (flat_written J (network p) tape)
       go None = refl
       go (Some m) =
-          ap (λ n. after_rounds (suc n) (part_step J tape p 0 0 no_names nothing) (key m)) (length-keys 0 (assignment_count p) ∙ sym (length-nodes_from p 0 0 no_names)) ∙
+          ap (λ n. after_rounds (suc n) (part_step J tape p 0 0 no_writers nothing) (key m)) (length-keys 0 (assignment_count p) ∙ sym (length-nodes_from p 0 0 no_writers)) ∙
           after_rounds_flat p (suc (length (network p))) m

@@ -15,7 +15,6 @@ pub mod Congruence
 pub mod Visible
 pub mod Soundness
 pub mod EqualLaws
-pub mod PlaceLaws
 pub mod Chances
 pub mod Products
 pub mod Structure
@@ -25,3 +24,13 @@ pub mod ContextTyping
 pub mod RuleLaws
 pub mod Numbers
 pub mod FlatLaws
+pub mod Histories
+pub mod PartLaws
+pub mod TypedParts
+pub mod Replacing
+pub mod PlaceLaws
+pub mod PairedRounds
+pub mod LeastFlat
+pub mod ClosingContexts
+pub mod Constants
+pub mod FixedInputLaws

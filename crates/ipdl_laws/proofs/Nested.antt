@@ -55,34 +55,34 @@ module _ (cs : List Channel) (G : Valuation → Valuation → Valuation) (mono :
       (solution-least cs inner IsMonotone-inner WritesOnly-inner at_once below)
       (solution-least cs diagonal IsMonotone-diagonal (λ s. only s s) nested (LiesWithin_equal _ _ step_fixed))
 
--- what a partner that writes the channels ds writes in surroundings that reply, given what the part beside it has
+-- what a partner that writes the channels ds writes in surroundings that respond, given what the part beside it has
 -- written; how the two are put together is left open, as the part beside it may be one of two with the same channels
 abbrev pub partner_valuation : List Channel → (Valuation → Valuation → Valuation) → (Valuation → Valuation) → (Valuation → Valuation) → Valuation → Valuation
-partner_valuation ds beside g reply p = solution ds (λ s. g (beside p (reply (beside p s))))
+partner_valuation ds beside g response p = solution ds (λ s. g (beside p (response (beside p s))))
 
 -- what the part beside the partner sees then
-abbrev pub partner_reply : List Channel → (Valuation → Valuation → Valuation) → (Valuation → Valuation) → (Valuation → Valuation) → Valuation → Valuation
-partner_reply ds beside g reply p = combined ds (partner_valuation ds beside g reply p) (reply (beside p (partner_valuation ds beside g reply p)))
+abbrev pub partner_response : List Channel → (Valuation → Valuation → Valuation) → (Valuation → Valuation) → (Valuation → Valuation) → Valuation → Valuation
+partner_response ds beside g response p = combined ds (partner_valuation ds beside g response p) (response (beside p (partner_valuation ds beside g response p)))
 
--- two parts, of which the first writes the channels cs and the second ds, in surroundings that reply
+-- two parts, of which the first writes the channels cs and the second ds, in surroundings that respond
 module _ (cs ds : List Channel) (apart : AreDisjoint cs ds)
-    (f g reply : Valuation → Valuation) (mono_f : IsMonotone f) (mono_g : IsMonotone g) (mono_reply : IsMonotone reply)
+    (f g response : Valuation → Valuation) (mono_f : IsMonotone f) (mono_g : IsMonotone g) (mono_response : IsMonotone response)
     (only_f : (p : Valuation) → WritesOnly cs (f p)) (only_g : (p : Valuation) → WritesOnly ds (g p)) where
   -- both at once
   abbrev pub joint_round : Valuation → Valuation
-  joint_round s = round cs ds f g (reply s) s
+  joint_round s = round cs ds f g (response s) s
 
   -- what the second writes, given what the first has written
   abbrev second_step : Valuation → Valuation → Valuation
-  second_step p s = g (combined cs p (reply (combined cs p s)))
+  second_step p s = g (combined cs p (response (combined cs p s)))
 
   -- what the second writes in the end
   abbrev second_part : Valuation → Valuation
-  second_part = partner_valuation ds (combined cs) g reply
+  second_part = partner_valuation ds (combined cs) g response
 
   -- what the first sees, given what it has written
   abbrev answer : Valuation → Valuation
-  answer = partner_reply ds (combined cs) g reply
+  answer = partner_response ds (combined cs) g response
 
   -- what the first writes in the end
   abbrev first_part : Valuation
@@ -90,7 +90,7 @@ module _ (cs ds : List Channel) (apart : AreDisjoint cs ds)
 
   -- the second has more of more
   second_step_grows : (p p' : Valuation) → LiesWithin p p' → (s s' : Valuation) → LiesWithin s s' → LiesWithin (second_step p s) (second_step p' s')
-  second_step_grows p p' h s s' k = mono_g _ _ (LiesWithin-combined cs _ _ _ _ h (mono_reply _ _ (LiesWithin-combined cs _ _ _ _ h k)))
+  second_step_grows p p' h s s' k = mono_g _ _ (LiesWithin-combined cs _ _ _ _ h (mono_response _ _ (LiesWithin-combined cs _ _ _ _ h k)))
 
   -- what the second writes grows with what the first has written
   IsMonotone-second_part : IsMonotone second_part
@@ -104,7 +104,7 @@ module _ (cs ds : List Channel) (apart : AreDisjoint cs ds)
   pub IsMonotone-answer : IsMonotone answer
   IsMonotone-answer p p' h =
       let k = IsMonotone-second_part p p' h in
-      LiesWithin-combined ds _ _ _ _ k (mono_reply _ _ (LiesWithin-combined cs _ _ _ _ h k))
+      LiesWithin-combined ds _ _ _ _ k (mono_response _ _ (LiesWithin-combined cs _ _ _ _ h k))
 
   -- what the first writes is a fixed point
   first_part-fixed : f (answer first_part) ≡ first_part
@@ -113,7 +113,7 @@ module _ (cs ds : List Channel) (apart : AreDisjoint cs ds)
   -- a round of both from more
   IsMonotone-joint_round : IsMonotone joint_round
   IsMonotone-joint_round s s' h =
-      LiesWithin-combined cs _ _ _ _ (mono_f _ _ (LiesWithin-combined ds _ _ _ _ h (mono_reply s s' h))) (mono_g _ _ (LiesWithin-combined cs _ _ _ _ h (mono_reply s s' h)))
+      LiesWithin-combined cs _ _ _ _ (mono_f _ _ (LiesWithin-combined ds _ _ _ _ h (mono_response s s' h))) (mono_g _ _ (LiesWithin-combined cs _ _ _ _ h (mono_response s s' h)))
 
   -- a round of both writes their channels alone
   WritesOnly-joint_round : (s : Valuation) → WritesOnly (union cs ds) (joint_round s)
@@ -134,8 +134,8 @@ module _ (cs ds : List Channel) (apart : AreDisjoint cs ds)
   -- the two together are a fixed point of the round of both
   whole-fixed : joint_round whole ≡ whole
   whole-fixed =
-      let first_fixed : f (combined ds whole (reply whole)) ≡ first_part = ap f (combined_whole (reply whole)) ∙ first_part-fixed in
-      let second_fixed : g (combined cs whole (reply whole)) ≡ second_part first_part = ap g (combined_twice cs first_part (second_part first_part) (reply whole)) ∙ second_part-fixed first_part in
+      let first_fixed : f (combined ds whole (response whole)) ≡ first_part = ap f (combined_whole (response whole)) ∙ first_part-fixed in
+      let second_fixed : g (combined cs whole (response whole)) ≡ second_part first_part = ap g (combined_twice cs first_part (second_part first_part) (response whole)) ∙ second_part-fixed first_part in
       rw (first_fixed, second_fixed)
 
   -- what both write at once is what the first writes against the answer of the second, and the second then
@@ -151,18 +151,18 @@ module _ (cs ds : List Channel) (apart : AreDisjoint cs ds)
       (λ e. if-false (has cs c) _ _ e ∙ by_test (has ds c)
       (λ k. if-true (has ds c) _ _ k)
       (λ k. if-false (has ds c) _ _ k ∙ sym (only c (has-union cs ds c ∙ rw (e, k)))))) in
-      let at_x : f (combined ds joint (reply joint)) ≡ x = fun_ext (λ c. by_test (has cs c)
+      let at_x : f (combined ds joint (response joint)) ≡ x = fun_ext (λ c. by_test (has cs c)
       (λ e. sym (if-true (has cs c) _ _ e) ∙ ap (λ p. p c) fixed ∙ sym (if-true (has cs c) _ _ e))
       (λ e. only_f _ c e ∙ sym (if-false (has cs c) _ _ e))) in
-      let at_y : g (combined cs joint (reply joint)) ≡ y = fun_ext (λ c. by_test (has ds c)
+      let at_y : g (combined cs joint (response joint)) ≡ y = fun_ext (λ c. by_test (has ds c)
       (λ e. by_test (has cs c)
       (λ k. not_both (has ds c) e (apart c k))
       (λ k. sym (if-false (has cs c) _ _ k) ∙ ap (λ p. p c) fixed ∙ sym (if-true (has ds c) _ _ e)))
       (λ e. only_g _ c e ∙ sym (if-false (has ds c) _ _ e))) in
-      let second_fixed : second_step x y ≡ y = ap (λ s. g (combined cs x (reply s))) parts ∙ ap g (combined_twice cs joint nothing (reply joint)) ∙ at_y in
+      let second_fixed : second_step x y ≡ y = ap (λ s. g (combined cs x (response s))) parts ∙ ap g (combined_twice cs joint nothing (response joint)) ∙ at_y in
       let second_below : LiesWithin (second_part x) y = solution-least ds (second_step x) (second_step_grows x x (LiesWithin-refl x)) (λ s. only_g _) y (LiesWithin_equal _ _ second_fixed) in
-      let answer_below : LiesWithin (answer x) (combined ds y (reply (combined cs x y))) = LiesWithin-combined ds _ _ _ _ second_below (mono_reply _ _ (LiesWithin-combined cs _ _ _ _ (LiesWithin-refl x) second_below)) in
-      let first_fixed : f (combined ds y (reply (combined cs x y))) ≡ x = ap (λ s. f (combined ds y (reply s))) parts ∙ ap f (combined_twice ds joint nothing (reply joint)) ∙ at_x in
+      let answer_below : LiesWithin (answer x) (combined ds y (response (combined cs x y))) = LiesWithin-combined ds _ _ _ _ second_below (mono_response _ _ (LiesWithin-combined cs _ _ _ _ (LiesWithin-refl x) second_below)) in
+      let first_fixed : f (combined ds y (response (combined cs x y))) ≡ x = ap (λ s. f (combined ds y (response s))) parts ∙ ap f (combined_twice ds joint nothing (response joint)) ∙ at_x in
       let first_below : LiesWithin first_part x = solution-least cs (λ p. f (answer p)) (λ p p' h. mono_f _ _ (IsMonotone-answer p p' h)) (λ p. only_f _) x (LiesWithin-trans _ _ _ (mono_f _ _ answer_below) (LiesWithin_equal _ _ first_fixed)) in
       let whole_below : LiesWithin whole (combined cs x y) = LiesWithin-combined cs _ _ _ _ first_below (LiesWithin-trans _ _ _ (IsMonotone-second_part _ _ first_below) second_below) in
       LiesWithin-antisym joint whole

@@ -1,7 +1,11 @@
 -- The product law of a binding, and the laws of totals of reactions.
-use Rattle.std.proofs.Common.{◌≡◌, ℕ, zero, suc, ◌+◌, ◌-◌, ◌*◌, ◌^◌, ◌≤◌, Bool, true, false, List, [], ◌∷◌, length, Option, Some, None, refl, sym, ap, ap₂, ◌∙◌, arith, pow-add, pow-suc}
+use Rattle.std.proofs.Common.{◌≡◌, ℕ, zero, suc, ◌+◌, ◌-◌, ◌*◌, ◌^◌, ◌<◌, ◌≤◌, ◌≢◌, ◌⊎◌, inl, inr, Bool, true, false, List, [], ◌∷◌, length, Option, Some, None, refl, sym, ap, ap₂, ◌∙◌, arith, pow-add, pow-suc}
+use Rattle.std.proofs.lemmas.Bool.{cases_lt}
+use Rattle.std.specs.Prelude.{IfSome}
 use mathlib.Core.Path.{fun_ext}
 use Rattle.ipdl_base.specs.Bits.{same_bits}
+use Rattle.ipdl_base.specs.BitsLaws.{same_bits-Decides}
+use Rattle.ipdl_term.specs.Channels.{has}
 use Rattle.ipdl_term.specs.Counts.{total, one_if, same_value}
 use Rattle.ipdl_term.specs.Interpretations.{Interpretation}
 use Rattle.ipdl_term.specs.Protocols.{written}
@@ -10,10 +14,12 @@ use Rattle.ipdl_term.specs.Terms.{Value, Channel, Reaction, binding, assignment}
 use Rattle.ipdl_term.specs.Typing.{Scope}
 use Rattle.ipdl_term.specs.Valuations.{Valuation, nothing, only, all_taken_out}
 use Rattle.ipdl_laws.specs.Alike.{FitsScope, loop_total, Alike}
-use Rattle.ipdl_laws.specs.ReactionTotals.{outcome_value, Weight, reaction_total, value_count, weight_by, weight_then, OutcomeFits}
+use Rattle.ipdl_laws.specs.ReactionTotals.{outcome_value, Weight, reaction_total, value_count, weight_by, weight_then, OutcomeFits, total_to}
 use Rattle.ipdl_laws.proofs.Chances.{chance_then, chance, reaction_total-chance, chance_equal, chance-scale}
 use Rattle.ipdl_laws.proofs.Loops.{loop_valuation-assignment}
-use Rattle.ipdl_laws.proofs.Totals.{total_equal, total-scale, total-scale_right, total-total}
+use Rattle.ipdl_laws.proofs.Totals.{total_equal, total-scale, total-scale_right, total-add, total-const, total-total}
+use Rattle.ipdl_laws.proofs.Sets.{by_test, if-true, has-single}
+use Rattle.ipdl_term.proofs.ChannelSets.{same_channel-itself}
 use Rattle.ipdl_laws.proofs.Widths.{FitsScope-nothing, FitsScope-all_taken_out}
 
 module _ (J : Interpretation) where
@@ -90,6 +96,82 @@ module _ (J : Interpretation) where
       total-total n w (λ t u. one_if (same_value (outcome_value (reaction_outcome J r env inputs t)) (Some u)) * f u) ∙
       total_equal w _ _ (λ u e. total-scale_right n (f u) (λ t. one_if (same_value (outcome_value (reaction_outcome J r env inputs t)) (Some u))))
 
+  -- ---- by values of any width
+
+  -- the sum of nothing
+  total-none : (w : ℕ) (f : Value → ℕ) → ((u : Value) → length u ≡ w → f u ≡ 0) → total w f ≡ 0
+  total-none w f h = total_equal w f (λ u. 0) h ∙ total-const w 0 ∙ omega arith
+
+  -- where values of other widths count, none does
+  total-other_width : (w : ℕ) (v : Value) (f : Value → ℕ) → length v ≢ w → total w (λ u. one_if (same_bits v u) * f u) ≡ 0
+  total-other_width w v f h = total-none w _ (λ u e. by_test (same_bits v u)
+      (λ k. absurd (h (ap length ((same_bits-Decides v u).0 k) ∙ e)))
+      (λ k. ap (λ b. one_if b * f u) k ∙ omega arith))
+
+  -- a sum to a width, of which one value counts
+  total_to-same_bits : (k : ℕ) (v : Value) (f : Value → ℕ) → length v ≤ k → total_to k (λ u. one_if (same_bits v u) * f u) ≡ f v
+  total_to-same_bits zero v f h = total-same_bits zero v f (omega arith)
+  total_to-same_bits (suc k) v f h = go (cases_lt (length v) (suc k)) (λ l. total_to-same_bits k v f l)
+    where
+      below : (k : ℕ) → k < length v → total_to k (λ u. one_if (same_bits v u) * f u) ≡ 0
+      below zero l = total-other_width zero v f (λ e. absurd (omega arith))
+      below (suc k) l = ap₂ ◌+◌ (below k (omega arith)) (total-other_width (suc k) v f (λ e. absurd (omega arith))) ∙ omega arith
+
+      go : (length v < suc k) ⊎ (suc k ≤ length v) → (length v ≤ k → total_to k (λ u. one_if (same_bits v u) * f u) ≡ f v) → total_to (suc k) (λ u. one_if (same_bits v u) * f u) ≡ f v
+      go (inl l) before = ap₂ ◌+◌ (before (omega arith)) (total-other_width (suc k) v f (λ e. absurd (omega arith))) ∙ omega arith
+      go (inr l) before = ap₂ ◌+◌ (below k (omega arith)) (total-same_bits (suc k) v f (omega arith)) ∙ omega arith
+
+  -- a sum to a width, of nothing
+  total_to-zero : (k : ℕ) (f : Value → ℕ) → total_to k (λ u. 0 * f u) ≡ 0
+  total_to-zero zero f = total-scale zero 0 f ∙ omega arith
+  total_to-zero (suc k) f = ap₂ ◌+◌ (total_to-zero k f) (total-scale (suc k) 0 f) ∙ omega arith
+
+  -- what an outcome weighs, as a sum over all values that are no wider than this
+  weight_to_values : (k : ℕ) (o : Option Value) (f : Value → ℕ) → (IfSome o (λ v. length v ≤ k)) → weight_by 0 f o ≡ total_to k (λ u. one_if (same_value o (Some u)) * f u)
+  weight_to_values k None f h = sym (total_to-zero k f)
+  weight_to_values k (Some v) f h = sym (total_to-same_bits k v f h)
+
+  -- the order of a sum over tapes and one to a width
+  total-total_to : (n k : ℕ) (f : List Bool → Value → ℕ) → total n (λ t. total_to k (λ u. f t u)) ≡ total_to k (λ u. total n (λ t. f t u))
+  total-total_to n zero f = total-total n zero f
+  total-total_to n (suc k) f =
+      total-add n (λ t. total_to k (λ u. f t u)) (λ t. total (suc k) (λ u. f t u)) ∙ ap₂ ◌+◌ (total-total_to n k f) (total-total n (suc k) f)
+
+  -- equal functions have equal sums to a width
+  total_to_equal : (k : ℕ) (f g : Value → ℕ) → ((u : Value) → f u ≡ g u) → total_to k f ≡ total_to k g
+  total_to_equal k f g h = ap (total_to k) (fun_ext h)
+
+  -- the width of what an outcome gives, none where it is stuck
+  abbrev given_width : Option Value → ℕ
+  given_width None = 0
+  given_width (Some v) = length v
+
+  within_width : (o : Option Value) (k : ℕ) → given_width o ≤ k → IfSome o (λ v. length v ≤ k)
+  within_width None k h = tt
+  within_width (Some v) k h = h
+
+  -- a number that no value of a function over all tapes of a length goes past
+  abbrev enough : ℕ → (List Bool → ℕ) → ℕ
+  enough zero f = f []
+  enough (suc n) f = enough n (λ t. f (false ∷ t)) + enough n (λ t. f (true ∷ t))
+
+  le-enough : (n : ℕ) (f : List Bool → ℕ) (t : List Bool) → length t ≡ n → f t ≤ enough n f
+  le-enough zero f [] e = omega arith
+  le-enough zero f (b ∷ t) e = absurd (omega arith)
+  le-enough (suc n) f [] e = absurd (omega arith)
+  le-enough (suc n) f (false ∷ t) e = let h = le-enough n (λ t. f (false ∷ t)) t (omega arith) in omega arith
+  le-enough (suc n) f (true ∷ t) e = let h = le-enough n (λ t. f (true ∷ t)) t (omega arith) in omega arith
+
+  -- a total as a sum over all values that are no wider than any that the reaction gives
+  reaction_total_to_values : (r : Reaction) (env : List Value) (inputs : Valuation) (n k : ℕ) (f : Value → ℕ) → enough n (λ t. given_width (outcome_value (reaction_outcome J r env inputs t))) ≤ k →
+      reaction_total J r env inputs n (weight_by 0 f) ≡ total_to k (λ u. value_count J r env inputs n u * f u)
+  reaction_total_to_values r env inputs n k f wide =
+      total_equal n _ (λ t. total_to k (λ u. one_if (same_value (outcome_value (reaction_outcome J r env inputs t)) (Some u)) * f u)) (λ t e.
+      let below = le-enough n (λ t. given_width (outcome_value (reaction_outcome J r env inputs t))) t e in
+      weight_to_values k (outcome_value (reaction_outcome J r env inputs t)) f (within_width _ k (omega arith))) ∙
+      total-total_to n k (λ t u. one_if (same_value (outcome_value (reaction_outcome J r env inputs t)) (Some u)) * f u) ∙
+      total_to_equal k _ _ (λ u. total-scale_right n (f u) (λ t. one_if (same_value (outcome_value (reaction_outcome J r env inputs t)) (Some u))))
+
   -- a weight that being stuck has none of
   weight_then_counts : (s : Reaction) (env : List Value) (inputs : Valuation) (n : ℕ) (v : Value) (o : Option Value) → weight_then J s env inputs n (λ x. one_if (same_value x (Some v))) o ≡ weight_by 0 (λ u. value_count J s (u ∷ env) inputs n v) o
   weight_then_counts s env inputs n v None = omega arith
@@ -103,28 +185,40 @@ module _ (J : Interpretation) where
       ap (reaction_total J r env inputs n) (fun_ext (weight_then_counts s env inputs n v)) ∙
       reaction_total_by_values w r env inputs n (λ u. value_count J s (u ∷ env) inputs n v) fits
 
+  -- the count of a value of a binding, by all values between, from some width on
+  pub value_count-binding_to : (w : ℕ) (r s : Reaction) (env : List Value) (inputs : Valuation) (n : ℕ) (v : Value) → reaction_coins (binding w r s) ≤ n →
+      (greatest : ℕ) × ((width : ℕ) → greatest ≤ width → 2 ^ n * value_count J (binding w r s) env inputs n v ≡ total_to width (λ u. value_count J r env inputs n u * value_count J s (u ∷ env) inputs n v))
+  value_count-binding_to w r s env inputs n v h = (
+    enough n (λ t. given_width (outcome_value (reaction_outcome J r env inputs t))),
+    λ width wide.
+        reaction_total-binding w r s env inputs n (λ x. one_if (same_value x (Some v))) h ∙
+        ap (reaction_total J r env inputs n) (fun_ext (weight_then_counts s env inputs n v)) ∙
+        reaction_total_to_values r env inputs n width (λ u. value_count J s (u ∷ env) inputs n v) wide,
+  )
+
   -- ---- assignments
 
   -- what is written where an assignment has this value, or none
-  abbrev written_value : Channel → Option Value → Valuation
+  abbrev pub written_value : Channel → Option Value → Valuation
   written_value c None = nothing
   written_value c (Some v) = only c v
 
   -- what is written of an outcome
-  written_is : (c : Channel) (o : Outcome) → written c o ≡ written_value c (outcome_value o)
+  pub written_is : (c : Channel) (o : Outcome) → written c o ≡ written_value c (outcome_value o)
   written_is c None = refl
   written_is c (Some o) = refl
 
-  -- reactions of equal totals make alike assignments
+  -- reactions of equal totals, wherever the channel is not written around them, make alike assignments
   pub alike_assignments : (scope : Scope) (c : Channel) (r s : Reaction) →
-      ((inputs : Valuation) → FitsScope scope inputs → (weight : Weight) (n : ℕ) → reaction_coins r ≤ n → reaction_coins s ≤ n → reaction_total J r [] inputs n weight ≡ reaction_total J s [] inputs n weight) →
+      ((inputs : Valuation) → FitsScope scope inputs → inputs c ≡ None → (weight : Weight) (n : ℕ) → reaction_coins r ≤ n → reaction_coins s ≤ n → reaction_total J r [] inputs n weight ≡ reaction_total J s [] inputs n weight) →
       Alike J scope (assignment c r) (assignment c s)
   alike_assignments scope c r s same = record {
     same_outputs = λ d. refl;
-    totals = λ reply is_reply weight n hr hs.
-        let inputs = all_taken_out (c ∷ []) (reply nothing) in
-        let fits = FitsScope-all_taken_out scope (c ∷ []) (reply nothing) (is_reply.keeps nothing (FitsScope-nothing scope)) in
-        let of : (x : Reaction) → loop_total J (assignment c x) n reply weight ≡ reaction_total J x [] inputs n (λ o. weight (written_value c o)) =
-        λ x. total_equal n _ _ (λ t e. ap weight (loop_valuation-assignment J c x reply is_reply.monotone t ∙ written_is c _)) in
-        of r ∙ same inputs fits (λ o. weight (written_value c o)) n hr hs ∙ sym (of s);
+    totals = λ response is_response weight n hr hs.
+        let inputs = all_taken_out (c ∷ []) (response nothing) in
+        let fits = FitsScope-all_taken_out scope (c ∷ []) (response nothing) (is_response.keeps nothing (FitsScope-nothing scope)) in
+        let without_own : inputs c ≡ None = if-true (has (c ∷ []) c) _ _ (has-single c c ∙ same_channel-itself c) in
+        let of : (x : Reaction) → loop_total J (assignment c x) n response weight ≡ reaction_total J x [] inputs n (λ o. weight (written_value c o)) =
+        λ x. total_equal n _ _ (λ t e. ap weight (loop_valuation-assignment J c x response is_response.monotone t ∙ written_is c _)) in
+        of r ∙ same inputs fits without_own (λ o. weight (written_value c o)) n hr hs ∙ sym (of s);
   }

@@ -14,7 +14,7 @@ use Rattle.ipdl_laws.proofs.Soundness.{alike_is_equal}
 use Rattle.ipdl_laws.proofs.Structure.{alike_unit, alike_newswap}
 
 -- channels that differ are told apart
-different : (c d : Channel) → c ≢ d → same_channel c d ≡ false
+pub different : (c d : Channel) → c ≢ d → same_channel c d ≡ false
 different c d h = by_test (same_channel c d) (λ e. absurd (h (same_channel-sound c d e))) (λ e. e)
 
 module _ (sig : Signature) (scope : Scope) (written : List Channel) where

@@ -31,6 +31,12 @@ if_same false x x' y y' h k = k refl
 pub not_both : {P : Type 0} (b : Bool) → b ≡ true → b ≡ false → P
 not_both b e k = let l : true ≡ false = sym e ∙ k in cc
 
+-- tests that each follow from the other
+pub test_same : (a b : Bool) → (a ≡ true → b ≡ true) → (b ≡ true → a ≡ true) → a ≡ b
+test_same true b h k = sym (h refl)
+test_same false true h k = k refl
+test_same false false h k = refl
+
 -- the order of two tests
 pub or_comm : (a b : Bool) → (a || b) ≡ (b || a)
 or_comm true true = refl

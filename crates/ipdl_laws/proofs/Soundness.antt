@@ -1,21 +1,20 @@
 -- Alike protocols are alike in every typed context, and so they are equal.
-use Rattle.std.proofs.Common.{◌≡◌, Bool, true, false, ◌||◌, List, [], ◌∷◌, ◌++◌, map, refl, sym, ap, ◌∙◌}
-use Rattle.std.proofs.lemmas.Bool.{or_left, or_right, and_parts, and_from}
-use Rattle.ipdl_term.specs.Channels.{same_channel, has, SameSet, outputs}
+use Rattle.std.proofs.Common.{List, sym, ap, ◌∙◌}
+use Rattle.ipdl_term.specs.Channels.{SameSet, outputs}
 use Rattle.ipdl_term.specs.Contexts.{plugged, context_outputs, IsTypedContext}
-use Rattle.ipdl_term.specs.Counts.{one_if, History, history_valuation, same_value, agree_at, is_history}
+use Rattle.ipdl_term.specs.Counts.{one_if, is_history}
 use Rattle.ipdl_term.specs.Equality.{Equal}
 use Rattle.ipdl_term.specs.Interpretations.{Signature, Interpretation, Interprets}
 use Rattle.ipdl_term.specs.Protocols.{written}
-use Rattle.ipdl_term.specs.Terms.{Value, Channel, Protocol, Context, hole, in_left, in_right, in_hiding}
+use Rattle.ipdl_term.specs.Terms.{Channel, Protocol, Context, hole, in_left, in_right, in_hiding}
 use Rattle.ipdl_term.specs.Typing.{Scope, scope_with, IsTyped, Typed}
-use Rattle.ipdl_term.specs.Valuations.{Valuation, nothing}
-use Rattle.ipdl_laws.specs.Alike.{IsReply, loop_valuation, Alike}
+use Rattle.ipdl_term.specs.Valuations.{nothing}
+use Rattle.ipdl_laws.specs.Alike.{IsResponse, loop_valuation, Alike}
 use Rattle.ipdl_laws.proofs.Congruence.{alike_beside_left, alike_beside_right, alike_under_hiding}
 use Rattle.ipdl_laws.proofs.Contexts.{outputs-plugged}
+use Rattle.ipdl_laws.proofs.Histories.{is_history_same}
 use Rattle.ipdl_laws.proofs.Order.{LiesWithin-refl}
-use Rattle.ipdl_term.proofs.ChannelSets.{same_channel-itself, has-append}
-use Rattle.ipdl_laws.proofs.Sets.{by_test, at_same_channel, AreDisjoint_same, AreDisjoint_swap}
+use Rattle.ipdl_laws.proofs.Sets.{AreDisjoint_same, AreDisjoint_swap}
 use Rattle.ipdl_laws.proofs.Totals.{total_equal}
 use Rattle.ipdl_laws.proofs.Visible.{free_channels_visible, alike_in_larger_scope}
 use Rattle.ipdl_laws.proofs.Widths.{FitsScope-nothing, KeepsScope-protocol_valuation}
@@ -34,43 +33,6 @@ module _ (sig : Signature) (J : Interpretation) (interprets : Interprets sig J) 
   alike_in_context inner written p q typed_p typed_q same alike (in_hiding c w C) scope h =
       alike_under_hiding J scope c w (plugged C p) (plugged C q) (alike_in_context inner written p q typed_p typed_q same alike C (scope_with c w scope) h.1)
 
--- ---- histories
-
--- tests that each follow from the other
-test_same : (a b : Bool) → (a ≡ true → b ≡ true) → (b ≡ true → a ≡ true) → a ≡ b
-test_same true b h k = sym (h refl)
-test_same false true h k = k refl
-test_same false false h k = refl
-
--- valuations that agree at a set agree at each of its channels
-agree_at_has : (cs : List Channel) (p q : Valuation) (c : Channel) → agree_at cs p q ≡ true → has cs c ≡ true → same_value (p c) (q c) ≡ true
-agree_at_has [] p q c h k = cc
-agree_at_has (d ∷ cs) p q c h k =
-    let both = and_parts (same_value (p d) (q d)) (agree_at cs p q) h in
-    by_test (same_channel d c)
-    (λ e. at_same_channel (λ x. same_value (p x) (q x) ≡ true) d c e both.0)
-    (λ e. agree_at_has cs p q c both.1 (sym (ap (λ b. b || has cs c) e) ∙ k))
-
--- and the other way round
-agree_at_from : (cs : List Channel) (p q : Valuation) → ((c : Channel) → has cs c ≡ true → same_value (p c) (q c) ≡ true) → agree_at cs p q ≡ true
-agree_at_from [] p q h = refl
-agree_at_from (d ∷ cs) p q h =
-    and_from (same_value (p d) (q d)) (agree_at cs p q)
-    (h d (or_left (same_channel d d) (has cs d) (same_channel-itself d)))
-    (agree_at_from cs p q (λ c k. h c (or_right (same_channel d c) (has cs c) k)))
-
--- lists of the same channels
-agree_at_same : (cs ds : List Channel) (p q : Valuation) → SameSet cs ds → agree_at cs p q ≡ agree_at ds p q
-agree_at_same cs ds p q h = test_same (agree_at cs p q) (agree_at ds p q)
-    (λ e. agree_at_from ds p q (λ c k. agree_at_has cs p q c e (h c ∙ k)))
-    (λ e. agree_at_from cs p q (λ c k. agree_at_has ds p q c e (sym (h c) ∙ k)))
-
--- a history of the same outputs
-is_history_same : (written written' : List Channel) (h : History) (p : Valuation) → SameSet written written' → is_history written h p ≡ is_history written' h p
-is_history_same written written' h p same =
-    let keys = map (λ (e : Channel × Value). e.0) h in
-    agree_at_same (written ++ keys) (written' ++ keys) p (history_valuation h) (λ c. has-append written keys c ∙ ap (λ b. b || has keys c) (same c) ∙ sym (has-append written' keys c))
-
 -- ---- equal protocols
 
 -- protocols that are typed, and alike under every interpretation, are equal
@@ -80,7 +42,7 @@ alike_is_equal sig scope written p q typed_p typed_q alike = record {
   right = typed_q;
   counts = λ J interprets C closes n hp hq h.
       let whole = alike_in_context sig J interprets scope written p q typed_p.typed typed_q.typed typed_p.writes (alike J interprets) C closes.0 closes.1 in
-      let silent : IsReply closes.0 (λ s. nothing) = record { monotone = λ s s' k. LiesWithin-refl nothing; keeps = λ s k. FitsScope-nothing closes.0 } in
+      let silent : IsResponse closes.0 (λ s. nothing) = record { monotone = λ s s' k. LiesWithin-refl nothing; keeps = λ s k. FitsScope-nothing closes.0 } in
       whole.totals (λ s. nothing) silent (λ s. one_if (is_history (outputs (plugged C p)) h s)) n hp hq ∙
       total_equal n _ _ (λ t e. ap one_if (is_history_same (outputs (plugged C p)) (outputs (plugged C q)) h (loop_valuation J (plugged C q) t (λ s. nothing)) whole.same_outputs));
 }

@@ -46,12 +46,12 @@ module _ (J : Interpretation) where
   pub alike_of_same_valuations : (scope : Scope) (p q : Protocol) → SameSet (outputs p) (outputs q) → coins p ≡ coins q → ((t : List Bool) → coins p ≤ length t → (inputs : Valuation) → protocol_valuation J p t inputs ≡ protocol_valuation J q t inputs) → Alike J scope p q
   alike_of_same_valuations scope p q same_outs same_coins same = record {
     same_outputs = same_outs;
-    totals = λ reply is_reply weight n hp hq. total_equal n _ _ (λ t e. ap weight (
-        let step : Valuation → Valuation = λ s. protocol_valuation J q t (reply s) in
-        ap (solution (outputs p)) (fun_ext (λ s. same t (omega arith) (reply s))) ∙
-        solution_same (outputs p) (outputs q) step (λ s s' h. IsMonotone-protocol_valuation J q t _ _ (is_reply.monotone s s' h))
-        (λ s c h. WritesOnly-protocol_valuation J q t (reply s) c (sym (same_outs c) ∙ h))
-        (λ s. WritesOnly-protocol_valuation J q t (reply s))));
+    totals = λ response is_response weight n hp hq. total_equal n _ _ (λ t e. ap weight (
+        let step : Valuation → Valuation = λ s. protocol_valuation J q t (response s) in
+        ap (solution (outputs p)) (fun_ext (λ s. same t (omega arith) (response s))) ∙
+        solution_same (outputs p) (outputs q) step (λ s s' h. IsMonotone-protocol_valuation J q t _ _ (is_response.monotone s s' h))
+        (λ s c h. WritesOnly-protocol_valuation J q t (response s) c (sym (same_outs c) ∙ h))
+        (λ s. WritesOnly-protocol_valuation J q t (response s))));
   }
 
   -- ---- nothing beside

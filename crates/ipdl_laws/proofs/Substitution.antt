@@ -17,7 +17,7 @@ lifted_number-suc : (m k n : ℕ) → lifted_number (suc m) k (suc n) ≡ suc (l
 lifted_number-suc m k n = grind (arith, nat_tests)
 
 -- every variable is lifted
-lifted_number-all : (k n : ℕ) → lifted_number zero k n ≡ n + k
+pub lifted_number-all : (k n : ℕ) → lifted_number zero k n ≡ n + k
 lifted_number-all k n = grind (arith, nat_tests)
 
 -- a variable behind extra values

@@ -9,7 +9,7 @@ use Rattle.ipdl_term.specs.Protocols.{after_rounds, protocol_valuation}
 use Rattle.ipdl_term.specs.Terms.{Channel, Reaction, returning, flipping, reading, branching, binding, Protocol, nil, assignment, parallel, hiding}
 use Rattle.ipdl_term.specs.Typing.{Scope, scope_with, GivesWidth, IsTyped}
 use Rattle.ipdl_term.specs.Valuations.{Valuation, nothing, only, combined, LiesWithin}
-use Rattle.ipdl_laws.specs.Alike.{FitsScope, IsReply, loop_valuation, Alike}
+use Rattle.ipdl_laws.specs.Alike.{FitsScope, IsResponse, loop_valuation, Alike}
 use Rattle.ipdl_laws.proofs.Combinations.{combined_nothing}
 use Rattle.ipdl_laws.proofs.Monotone.{WritesOnly-protocol_valuation}
 use Rattle.ipdl_laws.proofs.Order.{LiesWithin-refl, if_grows, LiesWithin-combined, WritesOnly}
@@ -69,33 +69,33 @@ visible_width P (Some w) e f = f w refl
 
 module _ (J : Interpretation) (inner scope : Scope) (visible : IsVisibleIn inner scope) where
   -- surroundings of the larger scope as ones of the inner scope, for a protocol that writes these channels
-  abbrev inner_reply : List Channel → (Valuation → Valuation) → Valuation → Valuation
-  inner_reply cs reply s = seen_in inner (reply (combined cs s nothing))
+  abbrev inner_response : List Channel → (Valuation → Valuation) → Valuation → Valuation
+  inner_response cs response s = seen_in inner (response (combined cs s nothing))
 
-  -- they are a reply
-  IsReply-inner_reply : (cs : List Channel) (reply : Valuation → Valuation) → ((c : Channel) → has cs c ≡ true → is_some (inner c) ≡ true) → IsReply scope reply → IsReply inner (inner_reply cs reply)
-  IsReply-inner_reply cs reply in_inner is_reply = record {
-    monotone = λ s s' h. LiesWithin-seen_in inner _ _ (is_reply.monotone _ _ (LiesWithin-combined cs s s' nothing nothing h (LiesWithin-refl nothing)));
+  -- they are a response
+  IsResponse-inner_response : (cs : List Channel) (response : Valuation → Valuation) → ((c : Channel) → has cs c ≡ true → is_some (inner c) ≡ true) → IsResponse scope response → IsResponse inner (inner_response cs response)
+  IsResponse-inner_response cs response in_inner is_response = record {
+    monotone = λ s s' h. LiesWithin-seen_in inner _ _ (is_response.monotone _ _ (LiesWithin-combined cs s s' nothing nothing h (LiesWithin-refl nothing)));
     keeps = λ s h c v w e k.
         let fits : FitsScope scope (combined cs s nothing) = λ d u x l m. by_test (has cs d)
         (λ t. visible_width (length u ≡ x) (inner d) (in_inner d t) (λ y z. let same : Some y ≡ Some x = sym (visible d y z) ∙ m in let same_width : y ≡ x = cc in h d u y (sym (if-true (has cs d) _ _ t) ∙ l) z ∙ same_width))
         (λ t. let none : None ≡ Some u = sym (if-false (has cs d) _ _ t) ∙ l in cc) in
-        is_reply.keeps _ fits c v w (sym (if-true (is_some (inner c)) _ _ (ap is_some k)) ∙ e) (visible c w k);
+        is_response.keeps _ fits c v w (sym (if-true (is_some (inner c)) _ _ (ap is_some k)) ∙ e) (visible c w k);
   }
 
   -- a protocol whose channels are in the inner scope writes the same in both surroundings
-  loop_valuation-inner_reply : (p : Protocol) (cs : List Channel) (reply : Valuation → Valuation) (t : List Bool) → SameSet (outputs p) cs → ((c : Channel) → has (free_channels p) c ≡ true → is_some (inner c) ≡ true) → loop_valuation J p t reply ≡ loop_valuation J p t (inner_reply cs reply)
-  loop_valuation-inner_reply p cs reply t same in_inner =
-      after_rounds_same (outputs p) (λ s. protocol_valuation J p t (reply s)) (λ s. protocol_valuation J p t (inner_reply cs reply s)) (λ s. WritesOnly-protocol_valuation J p t (reply s))
-      (λ s only. protocol_valuation_agree J p t (reply s) (inner_reply cs reply s) (λ c k. sym (if-true (is_some (inner c)) _ _ (in_inner c k) ∙ ap (λ x. reply x c) (combined_nothing cs s (λ d l. only d (same d ∙ l)))))) (suc (length (outputs p)))
+  loop_valuation-inner_response : (p : Protocol) (cs : List Channel) (response : Valuation → Valuation) (t : List Bool) → SameSet (outputs p) cs → ((c : Channel) → has (free_channels p) c ≡ true → is_some (inner c) ≡ true) → loop_valuation J p t response ≡ loop_valuation J p t (inner_response cs response)
+  loop_valuation-inner_response p cs response t same in_inner =
+      after_rounds_same (outputs p) (λ s. protocol_valuation J p t (response s)) (λ s. protocol_valuation J p t (inner_response cs response s)) (λ s. WritesOnly-protocol_valuation J p t (response s))
+      (λ s only. protocol_valuation_agree J p t (response s) (inner_response cs response s) (λ c k. sym (if-true (is_some (inner c)) _ _ (in_inner c k) ∙ ap (λ x. response x c) (combined_nothing cs s (λ d l. only d (same d ∙ l)))))) (suc (length (outputs p)))
 
   -- alike in the inner scope: alike in the larger one
   pub alike_in_larger_scope : (p q : Protocol) → ((c : Channel) → has (free_channels p) c ≡ true → is_some (inner c) ≡ true) → ((c : Channel) → has (free_channels q) c ≡ true → is_some (inner c) ≡ true) → Alike J inner p q → Alike J scope p q
   alike_in_larger_scope p q in_p in_q alike = record {
     same_outputs = alike.same_outputs;
-    totals = λ reply is_reply weight n hp hq.
+    totals = λ response is_response weight n hp hq.
         let cs = outputs p in
-        total_equal n _ _ (λ t e. ap weight (loop_valuation-inner_reply p cs reply t (λ c. refl) in_p)) ∙
-        alike.totals (inner_reply cs reply) (IsReply-inner_reply cs reply (λ c k. in_p c (free_channels-outputs p c k)) is_reply) weight n hp hq ∙
-        sym (total_equal n _ _ (λ t e. ap weight (loop_valuation-inner_reply q cs reply t (λ c. sym (alike.same_outputs c)) in_q)));
+        total_equal n _ _ (λ t e. ap weight (loop_valuation-inner_response p cs response t (λ c. refl) in_p)) ∙
+        alike.totals (inner_response cs response) (IsResponse-inner_response cs response (λ c k. in_p c (free_channels-outputs p c k)) is_response) weight n hp hq ∙
+        sym (total_equal n _ _ (λ t e. ap weight (loop_valuation-inner_response q cs response t (λ c. sym (alike.same_outputs c)) in_q)));
   }

@@ -8,6 +8,7 @@ use Rattle.ipdl_term.specs.Channels.{same_channel, has, outputs}
 use Rattle.ipdl_term.specs.Interpretations.{Symbol, Signature, Function, Interpretation, HaveWidths, IsFunctionOf, Interprets, zeros, entry_value, function_value, symbol_value, variable_value, at_one_width, cat_value, cut_value, chosen, evaluation}
 use Rattle.ipdl_term.specs.Protocols.{coins, written, after_rounds, round, protocol_valuation}
 use Rattle.ipdl_term.specs.Reactions.{Outcome, with_bit, first_bits, with_tape, continued, reaction_outcome}
+use Rattle.ipdl_term.specs.Surroundings.{FitWidths}
 use Rattle.ipdl_term.specs.Terms.{Value, Channel, Expression, literal, variable, outer, application, exclusive, conjunction, negation, concatenation, segment, equality, selection, Reaction, returning, flipping, reading, branching, binding, Protocol, nil, assignment, parallel, hiding}
 use Rattle.ipdl_term.specs.Typing.{Scope, scope_with, HasWidth, GivesWidth, IsTyped}
 use Rattle.ipdl_term.specs.Valuations.{Valuation, nothing, combined, taken_out, all_taken_out}
@@ -25,7 +26,7 @@ length-zip_bits op (x ∷ a) [] h = absurd (omega arith)
 length-zip_bits op (x ∷ a) (y ∷ b) h = ap suc (length-zip_bits op a b (omega arith))
 
 -- as many zeros as asked for
-length-zeros : (n : ℕ) → length (zeros n) ≡ n
+pub length-zeros : (n : ℕ) → length (zeros n) ≡ n
 length-zeros zero = refl
 length-zeros (suc n) = ap suc (length-zeros n)
 
@@ -73,12 +74,6 @@ length-symbol_value [] (g ∷ J) f s a h i k = absurd h
 length-symbol_value (u ∷ sig) [] f s a h i k = absurd h
 length-symbol_value (u ∷ sig) (g ∷ J) zero s a h i k = let e : u ≡ s = cc in length-function_value s g a (subst (λ x. IsFunctionOf x g) e h.0) k
 length-symbol_value (u ∷ sig) (g ∷ J) (suc f) s a h i k = length-symbol_value sig J f s a h.1 i k
-
--- the values of the variables have these widths
-abbrev pub FitWidths : List ℕ → List Value → Type 0
-FitWidths [] [] = Unit {0}
-FitWidths (w ∷ widths) (v ∷ env) = (length v ≡ w) × FitWidths widths env
-FitWidths _ _ = ⊥
 
 -- a variable of a width
 length-variable_value : (widths : List ℕ) (env : List Value) (n w : ℕ) → FitWidths widths env → slice_get widths n ≡ Some w → length (variable_value env n) ≡ w

@@ -21,22 +21,22 @@ KeepsScope scope step = (p : Valuation) → FitsScope scope p → FitsScope scop
 abbrev pub IsMonotone : (Valuation → Valuation) → Type 0
 IsMonotone step = (p q : Valuation) → LiesWithin p q → LiesWithin (step p) (step q)
 
--- A reply of the surroundings: what is written around a protocol, given what the protocol has written. More is
+-- A response of the surroundings: what is written around a protocol, given what the protocol has written. More is
 -- answered to more, with values of the widths of the scope.
-pub record IsReply (scope : Scope) (reply : Valuation → Valuation) : Type 0 where
-  pub monotone : IsMonotone reply
-  pub keeps : KeepsScope scope reply
+pub record IsResponse (scope : Scope) (response : Valuation → Valuation) : Type 0 where
+  pub monotone : IsMonotone response
+  pub keeps : KeepsScope scope response
 
--- what a protocol writes on a tape in surroundings that reply
+-- what a protocol writes on a tape in surroundings that respond
 abbrev pub loop_valuation : Interpretation → Protocol → List Bool → (Valuation → Valuation) → Valuation
-loop_valuation J p tape reply = solution (outputs p) (λ before. protocol_valuation J p tape (reply before))
+loop_valuation J p tape response = solution (outputs p) (λ before. protocol_valuation J p tape (response before))
 
 -- the sum over all tapes of n bits of the weight of what the protocol writes there
 abbrev pub loop_total : Interpretation → Protocol → ℕ → (Valuation → Valuation) → (Valuation → ℕ) → ℕ
-loop_total J p n reply weight = total n (λ tape. weight (loop_valuation J p tape reply))
+loop_total J p n response weight = total n (λ tape. weight (loop_valuation J p tape response))
 
--- the same outputs and, against each reply, the same sum of each weight over the tapes that are long enough for both
+-- the same outputs and, against each response, the same sum of each weight over the tapes that are long enough for both
 pub record Alike (J : Interpretation) (scope : Scope) (p q : Protocol) : Type 0 where
   pub same_outputs : SameSet (outputs p) (outputs q)
-  pub totals : (reply : Valuation → Valuation) → IsReply scope reply → (weight : Valuation → ℕ)
-      (n : ℕ) → coins p ≤ n → coins q ≤ n → loop_total J p n reply weight ≡ loop_total J q n reply weight
+  pub totals : (response : Valuation → Valuation) → IsResponse scope response → (weight : Valuation → ℕ)
+      (n : ℕ) → coins p ≤ n → coins q ≤ n → loop_total J p n response weight ≡ loop_total J q n response weight

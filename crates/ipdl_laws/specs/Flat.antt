@@ -1,6 +1,6 @@
 -- The network of a closed protocol: its assignments, numbered from the left, with no nesting left. And what flat rounds
 -- over all of them write.
-use Rattle.std.specs.Prelude.{ℕ, zero, suc, ◌+◌, Bool, List, [], ◌∷◌, ◌++◌, Option, Some, None, length, take, drop, nat_eq, slice_get, if◌then◌else◌}
+use Rattle.std.specs.Prelude.{◌≡◌, ℕ, zero, suc, ◌+◌, Bool, List, [], ◌∷◌, ◌++◌, Option, Some, None, length, take, drop, nat_eq, slice_get, if◌then◌else◌}
 use Rattle.ipdl_term.specs.Terms.{Value, Channel, Reaction, Protocol, nil, assignment, parallel, hiding}
 use Rattle.ipdl_term.specs.Variables.{first_number}
 use Rattle.ipdl_term.specs.Interpretations.{Interpretation}
@@ -27,44 +27,44 @@ writer_number (parallel p q) number c =
     first_number (writer_number p number c) (writer_number q (number + assignment_count p) c)
 writer_number (hiding d w p) number c = if same_channel d c then None else writer_number p number c
 
--- which assignment writes the channel that a name means, if one does
-abbrev pub Names : Type 0
-Names = Channel → Option ℕ
+-- the number of the assignment that writes each channel, if one does
+abbrev pub Writers : Type 0
+Writers = Channel → Option ℕ
 
-abbrev pub no_names : Names
-no_names c = None
+abbrev pub no_writers : Writers
+no_writers c = None
 
--- what the names mean in a protocol: first of all its own outputs, and else what they mean around it
-abbrev pub names_within : Protocol → ℕ → Names → Names
-names_within p number names c = first_number (writer_number p number c) (names c)
+-- the writers within a protocol: those of its own outputs first, and else those around it
+abbrev pub writers_within : Protocol → ℕ → Writers → Writers
+writers_within p number writers c = first_number (writer_number p number c) (writers c)
 
--- the names without one channel, which a hidden channel of this name covers
-abbrev pub names_without : Channel → Names → Names
-names_without c names d = if same_channel c d then None else names d
+-- the writers without one channel, which a hidden channel of this name covers
+abbrev pub writers_without : Channel → Writers → Writers
+writers_without c writers d = if same_channel c d then None else writers d
 
 -- ---- the network
 
--- an assignment: its channel, its reaction, the number of the first bit of its segment of the tape, and which assignment
--- writes the channel that a name means in its reaction
+-- an assignment: its channel, its reaction, the number of the first bit of its segment of the tape, and which assignments
+-- write the channels that its reaction names
 pub record Node : Type 0 where
   pub channel : Channel
   pub reaction : Reaction
   pub first_bit : ℕ
-  pub writer : Names
+  pub writer : Writers
 
 -- the assignments of a protocol that are numbered from this number on and take the tape from this bit on
-abbrev pub nodes_from : Protocol → ℕ → ℕ → Names → List Node
-nodes_from nil number bit names = []
-nodes_from (assignment c r) number bit names =
-    record { channel = c; reaction = r; first_bit = bit; writer = names_within (assignment c r) number names } ∷ []
-nodes_from (parallel p q) number bit names =
-    nodes_from p number bit (names_within (parallel p q) number names) ++
-    nodes_from q (number + assignment_count p) (bit + coins p) (names_within (parallel p q) number names)
-nodes_from (hiding c w p) number bit names = nodes_from p number bit (names_without c names)
+abbrev pub nodes_from : Protocol → ℕ → ℕ → Writers → List Node
+nodes_from nil number bit writers = []
+nodes_from (assignment c r) number bit writers =
+    record { channel = c; reaction = r; first_bit = bit; writer = writers_within (assignment c r) number writers } ∷ []
+nodes_from (parallel p q) number bit writers =
+    nodes_from p number bit (writers_within (parallel p q) number writers) ++
+    nodes_from q (number + assignment_count p) (bit + coins p) (writers_within (parallel p q) number writers)
+nodes_from (hiding c w p) number bit writers = nodes_from p number bit (writers_without c writers)
 
 -- the network of a closed protocol
 abbrev pub network : Protocol → List Node
-network p = nodes_from p 0 0 no_names
+network p = nodes_from p 0 0 no_writers
 
 -- ---- flat rounds
 
@@ -86,6 +86,10 @@ node_value J tape number node before =
 abbrev pub value_at : Interpretation → List Bool → ℕ → Option Node → Written → Option Value
 value_at J tape number None before = None
 value_at J tape number (Some node) before = node_value J tape number node before
+
+-- each value of the first is one of the second
+abbrev pub WrittenWithin : Written → Written → Type 0
+WrittenWithin w w' = (number : ℕ) (v : Value) → w number ≡ Some v → w' number ≡ Some v
 
 -- one round of all assignments, from what all wrote before
 abbrev pub flat_round : Interpretation → List Node → List Bool → Written → Written

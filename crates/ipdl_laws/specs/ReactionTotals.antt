@@ -1,5 +1,5 @@
 -- Totals of what a reaction gives, over all tapes of a length.
-use Rattle.std.specs.Prelude.{◌≡◌, ℕ, ◌*◌, ◌^◌, List, ◌∷◌, Option, Some, None, length}
+use Rattle.std.specs.Prelude.{◌≡◌, ℕ, zero, suc, ◌+◌, ◌*◌, ◌^◌, List, ◌∷◌, Option, Some, None, length}
 use Rattle.ipdl_term.specs.Terms.{Value, Reaction}
 use Rattle.ipdl_term.specs.Interpretations.{Interpretation}
 use Rattle.ipdl_term.specs.Valuations.{Valuation}
@@ -37,3 +37,8 @@ weight_then J s env inputs n weight = weight_by (2 ^ n * weight None) (λ v. rea
 abbrev pub OutcomeFits : ℕ → Outcome → Type 0
 OutcomeFits w None = Unit {0}
 OutcomeFits w (Some o) = length o.0 ≡ w
+
+-- the sum over all values of at most so many bits
+abbrev pub total_to : ℕ → (Value → ℕ) → ℕ
+total_to zero f = total zero f
+total_to (suc width) f = total_to width f + total (suc width) f

@@ -1,11 +1,11 @@
 //! Laws of the equality of protocols, and of the relation of alike protocols that it follows from.
 
-ghost use Rattle.std.specs.Prelude.{◌≡◌, ℕ, ◌≤◌, List, [], Bool, Some};
+ghost use Rattle.std.specs.Prelude.{◌≡◌, ℕ, ◌≤◌, List, [], Bool, None};
 ghost use Rattle.ipdl_laws.specs.Alike.{Alike, FitsScope, KeepsScope};
-ghost use Rattle.ipdl_laws.specs.Places.{context_at, hole_scope, part_at};
+ghost use Rattle.ipdl_laws.specs.Holes.{hole_scope};
 ghost use Rattle.ipdl_laws.specs.ReactionTotals.{Weight, reaction_total};
 ghost use Rattle.ipdl_term.specs.Channels.{AreDisjoint, SameSet, outputs};
-ghost use Rattle.ipdl_term.specs.Contexts.{IsTypedContext, IsVisibleIn, context_outputs, plugged};
+ghost use Rattle.ipdl_term.specs.Contexts.{IsTypedContext, context_outputs, plugged};
 ghost use Rattle.ipdl_term.specs.Equality.{Equal};
 ghost use Rattle.ipdl_term.specs.Interpretations.{Interpretation, Interprets, Signature};
 ghost use Rattle.ipdl_term.specs.Protocols.{protocol_valuation};
@@ -31,12 +31,13 @@ pub fn alike_is_transitive()
         Alike J scope p q → Alike J scope q r → Alike J scope p r }
 {}
 
-/// Two assignments of one channel are alike if, for all inputs of the widths of the scope, each
-/// weight of what the reactions give has one total over the tapes that are long enough for both.
+/// Two assignments of one channel are alike if, for all inputs of the widths of the scope that have
+/// no value on the channel itself, each weight of what the reactions give has one total over the
+/// tapes that are long enough for both.
 pub fn alike_assignments()
     ensures { (J : Interpretation) (scope : Scope) (c : Channel) (r s : Reaction) →
-        ((inputs : Valuation) → FitsScope scope inputs → (weight : Weight) (n : ℕ) →
-        reaction_coins r ≤ n → reaction_coins s ≤ n →
+        ((inputs : Valuation) → FitsScope scope inputs → inputs c ≡ None →
+        (weight : Weight) (n : ℕ) → reaction_coins r ≤ n → reaction_coins s ≤ n →
         reaction_total J r [] inputs n weight ≡ reaction_total J s [] inputs n weight) →
         Alike J scope (assignment c r) (assignment c s) }
 {}
@@ -90,15 +91,6 @@ pub fn alike_at_hole()
         Alike J (hole_scope C scope) p q → Alike J scope (plugged C p) (plugged C q) }
 {}
 
-/// A part of a typed protocol that is replaced, at its place, by one that is alike in the scope
-/// there leaves the whole alike.
-pub fn alike_at_place()
-    ensures { (sig : Signature) (J : Interpretation) → Interprets sig J →
-        (whole : Protocol) (place : List ℕ) (C : Context) (p q : Protocol) (scope : Scope) →
-        IsTyped sig scope whole → context_at whole place ≡ Some C → part_at whole place ≡ Some p →
-        Alike J (hole_scope C scope) p q → Alike J scope whole (plugged C q) }
-{}
-
 /// Typed protocols that are alike under every interpretation are equal.
 pub fn alike_is_equal()
     ensures { (sig : Signature) (scope : Scope) (written : List Channel) (p q : Protocol) →
@@ -132,16 +124,4 @@ pub fn equal_in_context()
         SameSet (context_outputs C inner_written) written →
         (p q : Protocol) → Equal sig inner inner_written p q →
         Equal sig scope written (plugged C p) (plugged C q) }
-{}
-
-/// A part of a typed protocol that is replaced, at its place, by an equal one leaves the whole equal,
-/// if the channels of the interface in which the two are equal are visible there.
-pub fn equal_at_place()
-    ensures { (sig : Signature) (scope : Scope) (written : List Channel)
-        (inner : Scope) (inner_written : List Channel)
-        (whole : Protocol) (place : List ℕ) (C : Context) (p q : Protocol) →
-        Typed sig scope whole written →
-        context_at whole place ≡ Some C → part_at whole place ≡ Some p →
-        IsVisibleIn inner (hole_scope C scope) → Equal sig inner inner_written p q →
-        Equal sig scope written whole (plugged C q) }
 {}

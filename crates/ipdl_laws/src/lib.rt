@@ -4,5 +4,7 @@
 
 pub mod equality;
 pub mod meaning;
+pub mod nontrivial;
+pub mod places;
 pub mod rules;
 pub mod terms;

@@ -1,0 +1,5 @@
+use Rattle.ipdl_laws.proofs.PartLaws.{same_in_expression}
+use Rattle.ipdl_laws.proofs.places.same_in_expression.Goals as goal
+
+pub returns : goal.returns
+returns c = same_in_expression

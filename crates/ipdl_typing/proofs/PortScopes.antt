@@ -1,6 +1,7 @@
 -- The channels that ports make visible.
-use Rattle.std.proofs.Common.{◌≡◌, ℕ, Bool, true, false, ◌||◌, if◌then◌else◌, List, [], ◌∷◌, ◌++◌, map, reverse, Option, Some, None, refl, sym, ap, ap₂, ◌∙◌, append_assoc}
+use Rattle.std.proofs.Common.{◌≡◌, ℕ, Bool, true, false, ◌||◌, if◌then◌else◌, List, [], ◌∷◌, ◌++◌, map, reverse, Option, Some, None, refl, sym, ap, ◌∙◌, append_assoc}
 use Rattle.std.specs.Prelude.{is_some}
+use Rattle.std.proofs.Math.Bool.{or-false}
 use Rattle.std.proofs.lemmas.Bool.{false≢true}
 use Rattle.std.proofs.lemmas.List.{map-append, reverse-append, append-nil}
 use mathlib.Core.Path.{fun_ext}
@@ -8,9 +9,8 @@ use Rattle.ipdl_term.specs.Terms.{Channel}
 use Rattle.ipdl_term.specs.Channels.{same_channel, has, without}
 use Rattle.ipdl_term.specs.Typing.{scope_of, port_names}
 use Rattle.ipdl_term.specs.declared.interface.Port.{Port}
-use Rattle.ipdl_typing.specs.declared.visible.Visible.{Visible}
-use Rattle.ipdl_typing.specs.Visible.{Entry, entry_of, entries_of, port_entry, scope_in, writable_in, earlier_in}
-use Rattle.ipdl_typing.proofs.VisibleLaws.{reverse-cons}
+use Rattle.ipdl_typing.specs.Visible.{Entry, port_entry, scope_in, writable_in, earlier_in}
+use Rattle.ipdl_typing.proofs.Index.{reverse-cons}
 
 -- the port of an entry
 abbrev pub entry_port : Entry → Port
@@ -56,16 +56,22 @@ scope_in-ports (e ∷ es) c =
         scope_in-append_none (reverse es) (e ∷ []) c is ∙ rw there refl
 
 -- of ports that are made visible
-pub scope_in-pushed : (visible : List Visible) (ports : List Port) → map entry_of visible ≡ map (port_entry false) ports → scope_in (entries_of visible) ≡ scope_of ports
-scope_in-pushed visible ports pushed =
-    ap (λ es. scope_in (reverse es)) pushed
+pub scope_in-pushed : (es : List Entry) (ports : List Port) → es ≡ reverse (map (port_entry false) ports) → scope_in es ≡ scope_of ports
+scope_in-pushed es ports pushed =
+    ap scope_in pushed
     ∙ fun_ext (scope_in-ports (map (port_entry false) ports))
     ∙ ap scope_of (entry_port-port_entry false ports)
 
+-- the ports of an interface, the outputs inside of the inputs
+abbrev pub interface_entries : List Port → List Port → List Entry
+interface_entries inputs outputs =
+    reverse (map (port_entry true) outputs) ++ (reverse (map (port_entry false) inputs) ++ [])
+
 -- of inputs and then outputs
-pub scope_in-interface : (visible : List Visible) (inputs outputs : List Port) → map entry_of visible ≡ map (port_entry false) inputs ++ map (port_entry true) outputs → scope_in (entries_of visible) ≡ scope_of (inputs ++ outputs)
-scope_in-interface visible inputs outputs pushed =
-    ap (λ es. scope_in (reverse es)) pushed
+pub scope_in-interface : (inputs outputs : List Port) → scope_in (interface_entries inputs outputs) ≡ scope_of (inputs ++ outputs)
+scope_in-interface inputs outputs =
+    ap (λ l. scope_in (reverse (map (port_entry true) outputs) ++ l)) (append-nil (reverse (map (port_entry false) inputs)))
+    ∙ ap scope_in (sym (reverse-append (map (port_entry false) inputs) (map (port_entry true) outputs)))
     ∙ fun_ext (scope_in-ports (map (port_entry false) inputs ++ map (port_entry true) outputs))
     ∙ ap scope_of (map-append entry_port (map (port_entry false) inputs) (map (port_entry true) outputs) ∙ ap (λ l. l ++ map entry_port (map (port_entry true) outputs)) (entry_port-port_entry false inputs) ∙ ap (λ l. inputs ++ l) (entry_port-port_entry true outputs))
 
@@ -110,30 +116,17 @@ earlier_in-ports writable (p ∷ ports) es none =
 
 -- ---- the ports of an interface
 
--- inputs and then outputs, on the stack
-interface_entries : (visible : List Visible) (inputs outputs : List Port) → map entry_of visible ≡ map (port_entry false) inputs ++ map (port_entry true) outputs → entries_of visible ≡ reverse (map (port_entry true) outputs) ++ (reverse (map (port_entry false) inputs) ++ [])
-interface_entries visible inputs outputs pushed =
-    ap reverse pushed
-    ∙ reverse-append (map (port_entry false) inputs) (map (port_entry true) outputs)
-    ∙ ap (λ l. reverse (map (port_entry true) outputs) ++ l) (sym (append-nil (reverse (map (port_entry false) inputs))))
-
--- of an interface the outputs may be written
-pub writable_in-interface : (visible : List Visible) (inputs outputs : List Port) → map entry_of visible ≡ map (port_entry false) inputs ++ map (port_entry true) outputs → writable_in (entries_of visible) ≡ has (port_names outputs)
-writable_in-interface visible inputs outputs pushed = fun_ext (λ c.
-    ap (λ es. writable_in es c) (interface_entries visible inputs outputs pushed)
-    ∙ writable_in-outputs outputs (reverse (map (port_entry false) inputs) ++ []) c
+-- the outputs may be written
+pub writable_in-interface : (inputs outputs : List Port) → writable_in (interface_entries inputs outputs) ≡ has (port_names outputs)
+writable_in-interface inputs outputs = fun_ext (λ c.
+    writable_in-outputs outputs (reverse (map (port_entry false) inputs) ++ []) c
     ∙ ap (λ b. has (port_names outputs) c || b) (writable_in-inputs inputs [] c refl)
-    ∙ or_false (has (port_names outputs) c))
-  where
-    or_false : (b : Bool) → (b || false) ≡ b
-    or_false true = refl
-    or_false false = refl
+    ∙ or-false (has (port_names outputs) c))
 
--- of an interface no port is written at first
-pub earlier_in-interface : (visible : List Visible) (inputs outputs : List Port) → map entry_of visible ≡ map (port_entry false) inputs ++ map (port_entry true) outputs → earlier_in (entries_of visible) ≡ []
-earlier_in-interface visible inputs outputs pushed =
-    ap earlier_in (interface_entries visible inputs outputs pushed)
-    ∙ earlier_in-ports true outputs (reverse (map (port_entry false) inputs) ++ []) (earlier_in-ports false inputs [] refl)
+-- no port is written at first
+pub earlier_in-interface : (inputs outputs : List Port) → earlier_in (interface_entries inputs outputs) ≡ []
+earlier_in-interface inputs outputs =
+    earlier_in-ports true outputs (reverse (map (port_entry false) inputs) ++ []) (earlier_in-ports false inputs [] refl)
 
 -- ---- an output is visible
 
@@ -146,7 +139,7 @@ scope_of-later p ports c there = go (scope_of ports c) refl there
     go (Some w) is there = rw is refl
 
 -- a port is visible
-scope_of-named : (ports : List Port) (c : Channel) → has (port_names ports) c ≡ true → is_some (scope_of ports c) ≡ true
+pub scope_of-named : (ports : List Port) (c : Channel) → has (port_names ports) c ≡ true → is_some (scope_of ports c) ≡ true
 scope_of-named [] c named = absurd (false≢true named)
 scope_of-named (p ∷ ports) c named = go (scope_of ports c) refl (same_channel p.name c) refl named (scope_of-named ports c)
   where
@@ -160,9 +153,3 @@ pub scope_of-outputs : (inputs outputs : List Port) (c : Channel) → has (port_
 scope_of-outputs [] outputs c named = scope_of-named outputs c named
 scope_of-outputs (p ∷ inputs) outputs c named =
     scope_of-later p (inputs ++ outputs) c (scope_of-outputs inputs outputs c named)
-
--- what two calls in a row make visible
-pub pushed_interface : (none first second : List Visible) (ins outs inputs outputs : List Port) → none ≡ [] → map entry_of first ≡ map entry_of none ++ map (port_entry false) ins → map entry_of second ≡ map entry_of first ++ map (port_entry true) outs → ins ≡ inputs → outs ≡ outputs → map entry_of second ≡ map (port_entry false) inputs ++ map (port_entry true) outputs
-pushed_interface none first second ins outs inputs outputs empty one two left right =
-    two
-    ∙ ap₂ (λ es (ports : List Port). es ++ map (port_entry true) ports) (one ∙ ap₂ (λ (vs : List Visible) (ports : List Port). map entry_of vs ++ map (port_entry false) ports) empty left) right

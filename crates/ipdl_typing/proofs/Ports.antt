@@ -1,6 +1,6 @@
 -- Lists of ports as sets.
 use Rattle.std.proofs.Common.{◌≡◌, ℕ, ◌+◌, ◌<◌, ◌==◌, nat_eq, Bool, true, false, ◌&&◌, if◌then◌else◌, List, [], ◌∷◌, ◌++◌, drop, get_or, length, refl, sym, ap, ap₂, ◌∙◌, subst}
-use Rattle.std.specs.Prelude.{bytes_eq}
+use Rattle.std.specs.Prelude.{bytes_eq, Result}
 use Rattle.std.specs.Bool.{Decides}
 use Rattle.std.specs.Cmp.Lexicographic.{pointwise}
 use Rattle.std.proofs.lemmas.Bool.{eqb-true, eq-eqb, false≢true}
@@ -14,7 +14,9 @@ use Rattle.ipdl_term.proofs.ChannelSets.{same_channel-sound, same_channel-itself
 use Rattle.ipdl_typing.specs.Checks.{has_port, lacking, side_failures, interface, checked}
 use Rattle.ipdl_typing.specs.Interfaces.{SamePorts}
 use Rattle.ipdl_typing.proofs.Exactly.{append-clean, checked-clean}
-use Rattle.ipdl_typing.proofs.First.{clean-append, clean-checked}
+use Rattle.ipdl_typing.specs.Answers.{AnswersChecks}
+use Rattle.ipdl_typing.specs.declared.fault.TypeFault.{TypeFault}
+use Rattle.ipdl_typing.proofs.First.{AnswersChecks-after, clean-append, clean-checked}
 
 -- a port more at the end
 pub has_port-push : (ports : List Port) (q p : Port) → has_port (ports ++ q ∷ []) p ≡ (if bytes_eq q.name p.name && nat_eq q.width p.width then true else has_port ports p)
@@ -108,3 +110,8 @@ SamePorts-sides left right clean =
     let third = append-clean (lacking left.inputs right.inputs ++ lacking left.outputs right.outputs) (lacking right.inputs left.inputs) last.0 in
     let front = append-clean (lacking left.inputs right.inputs) (lacking left.outputs right.outputs) third.0 in
     (SamePorts-lacking left.inputs right.inputs front.0 third.1, SamePorts-lacking left.outputs right.outputs front.1 last.1)
+
+-- the checks of the sides, by the last of them
+pub sides_checks : {X : Type 0} (r : Result X TypeFault) (left right : Interface) → lacking left.inputs right.inputs ≡ [] → lacking left.outputs right.outputs ≡ [] → lacking right.inputs left.inputs ≡ [] → AnswersChecks r (lacking right.outputs left.outputs) → AnswersChecks r (side_failures left right)
+sides_checks r left right one two three last =
+    AnswersChecks-after r (lacking left.inputs right.inputs ++ lacking left.outputs right.outputs ++ lacking right.inputs left.inputs) (lacking right.outputs left.outputs) (clean-append (lacking left.inputs right.inputs ++ lacking left.outputs right.outputs) (lacking right.inputs left.inputs) (clean-append (lacking left.inputs right.inputs) (lacking left.outputs right.outputs) one two) three) last

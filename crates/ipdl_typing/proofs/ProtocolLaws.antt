@@ -1,24 +1,22 @@
 -- The failures of protocols: which of what is visible they depend on, and what a protocol without failures writes.
-use Rattle.std.proofs.Common.{◌≡◌, ℕ, ◌<◌, nat_le, length, arith, Bool, true, false, ◌||◌, not, if◌then◌else◌, List, [], ◌∷◌, ◌++◌, map, reverse, refl, sym, ap, ap₂, ◌∙◌, subst}
-use Rattle.std.specs.Prelude.{unwrap_or, Option, None, Some, IsSome, Result, OnOk, IfErr}
-use Rattle.std.specs.Option.{option_to_list}
+use Rattle.std.proofs.Common.{◌≡◌, ℕ, ◌==◌, nat_le, Bool, true, false, ◌||◌, not, if◌then◌else◌, List, [], ◌∷◌, ◌++◌, drop, refl, sym, ap, ap₂, ◌∙◌, subst}
+use Rattle.std.specs.Prelude.{unwrap_or, Option, Some, Result, OnOk}
 use Rattle.std.proofs.lemmas.Bool.{false≢true}
-use Rattle.std.proofs.lemmas.List.{map-append}
-use Rattle.std.proofs.lemmas.Result.{on_ok_weaker, IfErr-weaker}
+use Rattle.std.proofs.lemmas.Result.{on_ok_weaker}
 use mathlib.Core.Path.{fun_ext}
-use Rattle.ipdl_term.specs.Terms.{Channel, Protocol, nil, assignment, parallel, hiding}
+use Rattle.ipdl_term.specs.Terms.{Channel, Reaction, Protocol, nil, assignment, parallel, hiding}
 use Rattle.ipdl_term.specs.Channels.{same_channel, has, union, without, outputs}
 use Rattle.ipdl_term.specs.Interpretations.{Signature}
 use Rattle.ipdl_term.specs.Typing.{Scope, scope_with}
 use Rattle.ipdl_term.proofs.ChannelSets.{same_channel-sound, same_channel-itself, has-without, has-union}
-use Rattle.ipdl_typing.specs.Checks.{Failure, width, not_output, twice, new_unwritten, checked, child, reaction_failures, gives_width, Writable, writable_with, protocol_failures}
-use Rattle.ipdl_typing.specs.Answers.{Tells, TellsFirst}
+use Rattle.ipdl_typing.specs.Checks.{width, not_output, twice, new_unwritten, checked, child, reaction_width, reaction_failures, gives_width, Writable, writable_with, protocol_failures}
+use Rattle.ipdl_typing.specs.Answers.{Tells, TellsFirstFailure, AnswersChecks}
+use Rattle.ipdl_typing.specs.Interfaces.{failures_in}
 use Rattle.ipdl_typing.specs.declared.fault.TypeFault.{TypeFault}
-use Rattle.ipdl_typing.specs.declared.visible.Visible.{Visible}
-use Rattle.ipdl_typing.specs.Visible.{Entry, entry_of, entries_of, scope_in, writable_in, earlier_in, apart_from, marked_entry, marked}
-use Rattle.ipdl_typing.proofs.First.{TellsFirst-in_front, TellsFirst-after, TellsFirst-checked, clean-append, clean-checked}
+use Rattle.ipdl_typing.specs.Visible.{Entry, unwritten_entry, innermost, scope_in, writable_in, earlier_in, apart_from, marked}
+use Rattle.ipdl_typing.proofs.First.{TellsFirstFailure-in_front, TellsFirstFailure-after, TellsFirstFailure-checked, AnswersChecks-after, clean-append, clean-checked}
 use Rattle.ipdl_typing.proofs.Exactly.{append-clean, checked-clean}
-use Rattle.ipdl_typing.proofs.VisibleLaws.{reverse-push, scope_in-marked, writable_in-marked, marked-twice, has-marked}
+use Rattle.ipdl_typing.proofs.VisibleLaws.{passes, writable_in-innermost, has-earlier_in, scope_in-marked, writable_in-marked, marked-twice, has-marked}
 
 -- ---- the channels that were written earlier count as a set
 
@@ -93,22 +91,13 @@ marked-both es now cs ds written =
 
 -- ---- a hidden channel
 
--- a hidden channel that is not written yet
-abbrev pub hidden_entry : Channel → ℕ → Entry
-hidden_entry c w = record { name = c; width = w; writable = true; written = false }
-
--- it is the innermost one
-pub entries_of-push : (visible pushed : List Visible) (v : Visible) → pushed ≡ visible ++ v ∷ [] → entries_of pushed ≡ entry_of v ∷ entries_of visible
-entries_of-push visible pushed v is =
-    ap entries_of is ∙ ap reverse (map-append entry_of visible (v ∷ [])) ∙ reverse-push (map entry_of visible) (entry_of v)
-
 -- the failures under a hidden channel are those where it is visible
-pub failures-hidden : (sig : Signature) (es now : List Entry) (path : List ℕ) (c : Channel) (w : ℕ) (p : Protocol) → now ≡ hidden_entry c w ∷ es → protocol_failures sig (scope_in now) (writable_in now) (earlier_in now) path p ≡ protocol_failures sig (scope_with c w (scope_in es)) (writable_with c (writable_in es)) (without c (earlier_in es)) path p
+pub failures-hidden : (sig : Signature) (es now : List Entry) (path : List ℕ) (c : Channel) (w : ℕ) (p : Protocol) → now ≡ unwritten_entry c w true ∷ es → protocol_failures sig (scope_in now) (writable_in now) (earlier_in now) path p ≡ protocol_failures sig (scope_with c w (scope_in es)) (writable_with c (writable_in es)) (without c (earlier_in es)) path p
 failures-hidden sig es now path c w p is =
     ap (λ l. protocol_failures sig (scope_in l) (writable_in l) (earlier_in l) path p) is
 
 -- whether it was written
-pub written-hidden : (es now : List Entry) (c : Channel) (w : ℕ) (cs : List Channel) → now ≡ marked (has cs) (hidden_entry c w ∷ es) → has (earlier_in now) c ≡ has cs c
+pub written-hidden : (es now : List Entry) (c : Channel) (w : ℕ) (cs : List Channel) → now ≡ marked (has cs) (unwritten_entry c w true ∷ es) → has (earlier_in now) c ≡ has cs c
 written-hidden es now c w cs is = ap (λ l. has (earlier_in l) c) is ∙ go (has cs c)
   where
     go : (b : Bool) → has (if b then (c ∷ earlier_in (marked (apart_from c (has cs)) es)) else without c (earlier_in (marked (apart_from c (has cs)) es))) c ≡ b
@@ -116,65 +105,89 @@ written-hidden es now c w cs is = ap (λ l. has (earlier_in l) c) is ∙ go (has
     go false = has-without c (earlier_in (marked (apart_from c (has cs)) es)) c ∙ rw (same_channel-itself c) refl
 
 -- the channels outside of it
-pub marked-outside : (es now rest : List Entry) (last : Entry) (c : Channel) (w : ℕ) (cs : List Channel) → now ≡ marked (has cs) (hidden_entry c w ∷ es) → now ≡ last ∷ rest → rest ≡ marked (has (without c cs)) es
-marked-outside es now rest last c w cs is popped =
-    let tail : rest ≡ marked (apart_from c (has cs)) es = cc in
-    tail ∙ ap (λ test. marked test es) (fun_ext (λ d. sym (has-without c cs d)))
+pub marked-outside : (es end : List Entry) (c : Channel) (w : ℕ) (cs : List Channel) → end ≡ marked (has cs) (unwritten_entry c w true ∷ es) → drop 1 end ≡ marked (has (without c cs)) es
+marked-outside es end c w cs is =
+    ap (drop 1) is ∙ ap (λ test. marked test es) (fun_ext (λ d. sym (has-without c cs d)))
 
 -- ---- what a call answers, from what the calls below it answered
 
--- the failures where these channels are visible
-abbrev pub failures_at : Signature → List Entry → List ℕ → Protocol → List Failure
-failures_at sig es path p = protocol_failures sig (scope_in es) (writable_in es) (earlier_in es) path p
+-- a channel that is written a second time
+pub channel_twice : (fault : TypeFault) (es : List Entry) (path : List ℕ) (c : Channel) (e : Entry) → Some e ≡ innermost es c → e.writable ≡ true → e.written ≡ true → Tells fault (record { path = path; cause = twice c }) → TellsFirstFailure fault (checked (writable_in es c) path (not_output c) ++ checked (not (has (earlier_in es) c)) path (twice c))
+channel_twice fault es path c e is may was tells =
+    let allowed = clean-checked (writable_in es c) path (not_output c) (writable_in-innermost es c ∙ ap (passes (λ e. e.writable)) (sym is) ∙ may) in
+    let written : not (has (earlier_in es) c) ≡ false = ap not (has-earlier_in es c ∙ ap (passes (λ e. e.written)) (sym is) ∙ was) in
+    TellsFirstFailure-after fault (checked (writable_in es c) path (not_output c)) (checked (not (has (earlier_in es) c)) path (twice c)) allowed (TellsFirstFailure-checked fault (not (has (earlier_in es) c)) path (twice c) written tells)
+
+-- a channel that may be written and was not
+pub channel_clean : (es : List Entry) (path : List ℕ) (c : Channel) (e : Entry) → Some e ≡ innermost es c → e.writable ≡ true → e.written ≡ false → checked (writable_in es c) path (not_output c) ++ checked (not (has (earlier_in es) c)) path (twice c) ≡ []
+channel_clean es path c e is may was =
+    clean-append (checked (writable_in es c) path (not_output c)) (checked (not (has (earlier_in es) c)) path (twice c)) (clean-checked (writable_in es c) path (not_output c) (writable_in-innermost es c ∙ ap (passes (λ e. e.writable)) (sym is) ∙ may)) (clean-checked (not (has (earlier_in es) c)) path (twice c) (ap not (has-earlier_in es c ∙ ap (passes (λ e. e.written)) (sym is) ∙ was)))
+
+-- a channel that may not be written
+pub channel_refused : (fault : TypeFault) (es : List Entry) (path : List ℕ) (c : Channel) → writable_in es c ≡ false → Tells fault (record { path = path; cause = not_output c }) → TellsFirstFailure fault (checked (writable_in es c) path (not_output c) ++ checked (not (has (earlier_in es) c)) path (twice c))
+channel_refused fault es path c none tells =
+    TellsFirstFailure-in_front fault (checked (writable_in es c) path (not_output c)) (checked (not (has (earlier_in es) c)) path (twice c)) (TellsFirstFailure-checked fault (writable_in es c) path (not_output c) none tells)
+
+-- an assignment whose channel may not be written
+pub assignment_channel : (fault : TypeFault) (sig : Signature) (es : List Entry) (path : List ℕ) (c : Channel) (a : Reaction) → TellsFirstFailure fault (checked (writable_in es c) path (not_output c) ++ checked (not (has (earlier_in es) c)) path (twice c)) → TellsFirstFailure fault (failures_in sig es path (assignment c a))
+assignment_channel fault sig es path c a first =
+    let front = checked (writable_in es c) path (not_output c) ++ checked (not (has (earlier_in es) c)) path (twice c) in
+    let inner = reaction_failures sig (scope_in es) [] (child path 0) a in
+    let last = gives_width sig (scope_in es) [] (child path 0) a (unwrap_or (scope_in es c) 0) in
+    TellsFirstFailure-in_front fault (front ++ inner) last (TellsFirstFailure-in_front fault front inner first)
+
+-- an assignment whose reaction fails
+pub assignment_reaction : (fault : TypeFault) (sig : Signature) (es : List Entry) (path : List ℕ) (c : Channel) (a : Reaction) → checked (writable_in es c) path (not_output c) ++ checked (not (has (earlier_in es) c)) path (twice c) ≡ [] → TellsFirstFailure fault (reaction_failures sig (scope_in es) [] (child path 0) a) → TellsFirstFailure fault (failures_in sig es path (assignment c a))
+assignment_reaction fault sig es path c a allowed first =
+    let front = checked (writable_in es c) path (not_output c) ++ checked (not (has (earlier_in es) c)) path (twice c) in
+    let inner = reaction_failures sig (scope_in es) [] (child path 0) a in
+    let last = gives_width sig (scope_in es) [] (child path 0) a (unwrap_or (scope_in es c) 0) in
+    TellsFirstFailure-in_front fault (front ++ inner) last (TellsFirstFailure-after fault front inner allowed first)
+
+-- an assignment whose channel may be written, by the width of its reaction
+pub assignment_checks : {X : Type 0} (r : Result X TypeFault) (sig : Signature) (es : List Entry) (path : List ℕ) (c : Channel) (a : Reaction) (w got : ℕ) → scope_in es c ≡ Some w → checked (writable_in es c) path (not_output c) ++ checked (not (has (earlier_in es) c)) path (twice c) ≡ [] → got ≡ reaction_width sig (scope_in es) [] a → reaction_failures sig (scope_in es) [] (child path 0) a ≡ [] → AnswersChecks r (checked (got == w) (child path 0) (width w got)) → AnswersChecks r (failures_in sig es path (assignment c a))
+assignment_checks r sig es path c a w got visible allowed is clean later =
+    let front = checked (writable_in es c) path (not_output c) ++ checked (not (has (earlier_in es) c)) path (twice c) in
+    let same : checked (got == w) (child path 0) (width w got) ≡ gives_width sig (scope_in es) [] (child path 0) a (unwrap_or (scope_in es c) 0) = ap₂ (λ g (o : Option ℕ). checked (g == unwrap_or o 0) (child path 0) (width (unwrap_or o 0) g)) is (sym visible) in
+    AnswersChecks-after r (front ++ reaction_failures sig (scope_in es) [] (child path 0) a) (gives_width sig (scope_in es) [] (child path 0) a (unwrap_or (scope_in es c) 0)) (clean-append front (reaction_failures sig (scope_in es) [] (child path 0) a) allowed clean) (subst (AnswersChecks r) same later)
 
 -- two protocols mark the outputs of both
 pub parallel_written : {T E : Type 0} (r : Result T E) (es now end : List Entry) (t p q : Protocol) → t ≡ parallel p q → now ≡ marked (has (outputs p)) es → OnOk r (end ≡ marked (has (outputs q)) now) → OnOk r (end ≡ marked (has (outputs t)) es)
 parallel_written r es now end t p q is written later =
     on_ok_weaker r (λ e. e ∙ marked-both es now (outputs p) (outputs q) written ∙ ap (λ x. marked (has (outputs x)) es) (sym is)) later
 
--- two protocols without failures
-pub parallel_clean : {T E : Type 0} (r : Result T E) (sig : Signature) (es now : List Entry) (path : List ℕ) (t p q : Protocol) → t ≡ parallel p q → now ≡ marked (has (outputs p)) es → failures_at sig es (child path 0) p ≡ [] → OnOk r (failures_at sig now (child path 1) q ≡ []) → OnOk r (failures_at sig es path t ≡ [])
-parallel_clean r sig es now path t p q is written clean later =
-    on_ok_weaker r (λ e. ap (failures_at sig es path) is ∙ clean-append (failures_at sig es (child path 0) p) (protocol_failures sig (scope_in es) (writable_in es) (union (earlier_in es) (outputs p)) (child path 1) q) clean (sym (failures-written sig es now path p q clean written) ∙ e)) later
+-- the first failure of the first protocol
+pub parallel_first : (fault : TypeFault) (sig : Signature) (es : List Entry) (path : List ℕ) (t p q : Protocol) → t ≡ parallel p q → TellsFirstFailure fault (failures_in sig es (child path 0) p) → TellsFirstFailure fault (failures_in sig es path t)
+parallel_first fault sig es path t p q is first =
+    subst (TellsFirstFailure fault) (sym (ap (failures_in sig es path) is)) (TellsFirstFailure-in_front fault (failures_in sig es (child path 0) p) (protocol_failures sig (scope_in es) (writable_in es) (union (earlier_in es) (outputs p)) (child path 1) q) first)
 
--- the first failure of the second protocol
-pub parallel_first : {T : Type 0} (r : Result T TypeFault) (sig : Signature) (es now : List Entry) (path : List ℕ) (t p q : Protocol) → t ≡ parallel p q → now ≡ marked (has (outputs p)) es → failures_at sig es (child path 0) p ≡ [] → IfErr r (λ fault. TellsFirst fault (failures_at sig now (child path 1) q)) → IfErr r (λ fault. TellsFirst fault (failures_at sig es path t))
-parallel_first r sig es now path t p q is written clean later =
-    IfErr-weaker r (λ fault. TellsFirst fault (failures_at sig now (child path 1) q)) (λ fault. TellsFirst fault (failures_at sig es path t)) (λ fault first. subst (TellsFirst fault) (sym (ap (failures_at sig es path) is)) (TellsFirst-after fault (failures_at sig es (child path 0) p) (protocol_failures sig (scope_in es) (writable_in es) (union (earlier_in es) (outputs p)) (child path 1) q) clean (subst (TellsFirst fault) (failures-written sig es now path p q clean written) first))) later
+-- the checks of two protocols, by those of the second one
+pub parallel_checks : {X : Type 0} (r : Result X TypeFault) (sig : Signature) (es now : List Entry) (path : List ℕ) (t p q : Protocol) → t ≡ parallel p q → now ≡ marked (has (outputs p)) es → failures_in sig es (child path 0) p ≡ [] → AnswersChecks r (failures_in sig now (child path 1) q) → AnswersChecks r (failures_in sig es path t)
+parallel_checks r sig es now path t p q is written clean later =
+    subst (AnswersChecks r) (sym (ap (failures_in sig es path) is)) (AnswersChecks-after r (failures_in sig es (child path 0) p) (protocol_failures sig (scope_in es) (writable_in es) (union (earlier_in es) (outputs p)) (child path 1) q) clean (subst (AnswersChecks r) (failures-written sig es now path p q clean written) later))
+
+-- a hidden channel of a width that values may not have
+pub hiding_width : (fault : TypeFault) (sig : Signature) (es : List Entry) (path : List ℕ) (t p : Protocol) (c : Channel) (w : ℕ) → t ≡ hiding c w p → TellsFirstFailure fault (checked (nat_le w 128) path (width 128 w)) → TellsFirstFailure fault (failures_in sig es path t)
+hiding_width fault sig es path t p c w is first =
+    let inner = failures_in sig (unwritten_entry c w true ∷ es) (child path 0) p in
+    let allowed = checked (nat_le w 128) path (width 128 w) in
+    subst (TellsFirstFailure fault) (sym (ap (failures_in sig es path) is)) (TellsFirstFailure-in_front fault (allowed ++ inner) (checked (has (outputs p) c) path (new_unwritten c)) (TellsFirstFailure-in_front fault allowed inner first))
 
 -- the first failure of the protocol under a hidden channel
-pub hiding_inner : (fault : TypeFault) (sig : Signature) (es now : List Entry) (path : List ℕ) (t p : Protocol) (c : Channel) (w : ℕ) → t ≡ hiding c w p → now ≡ hidden_entry c w ∷ es → checked (nat_le w 128) path (width 128 w) ≡ [] → TellsFirst fault (failures_at sig now (child path 0) p) → TellsFirst fault (failures_at sig es path t)
-hiding_inner fault sig es now path t p c w is pushed allowed first =
-    let inner = failures_at sig (hidden_entry c w ∷ es) (child path 0) p in
-    subst (TellsFirst fault) (sym (ap (failures_at sig es path) is)) (TellsFirst-in_front fault (checked (nat_le w 128) path (width 128 w) ++ inner) (checked (has (outputs p) c) path (new_unwritten c)) (TellsFirst-after fault (checked (nat_le w 128) path (width 128 w)) inner allowed (subst (λ l. TellsFirst fault (failures_at sig l (child path 0) p)) pushed first)))
+pub hiding_inner : (fault : TypeFault) (sig : Signature) (es now : List Entry) (path : List ℕ) (t p : Protocol) (c : Channel) (w : ℕ) → t ≡ hiding c w p → now ≡ unwritten_entry c w true ∷ es → checked (nat_le w 128) path (width 128 w) ≡ [] → TellsFirstFailure fault (failures_in sig now (child path 0) p) → TellsFirstFailure fault (failures_in sig es path t)
+hiding_inner fault sig es now path t p c w is entered allowed first =
+    let inner = failures_in sig (unwritten_entry c w true ∷ es) (child path 0) p in
+    subst (TellsFirstFailure fault) (sym (ap (failures_in sig es path) is)) (TellsFirstFailure-in_front fault (checked (nat_le w 128) path (width 128 w) ++ inner) (checked (has (outputs p) c) path (new_unwritten c)) (TellsFirstFailure-after fault (checked (nat_le w 128) path (width 128 w)) inner allowed (subst (λ l. TellsFirstFailure fault (failures_in sig l (child path 0) p)) entered first)))
 
--- a hidden channel that is not written
-pub hiding_unwritten : (fault : TypeFault) (sig : Signature) (es now end : List Entry) (path : List ℕ) (t p : Protocol) (c : Channel) (w : ℕ) → t ≡ hiding c w p → now ≡ hidden_entry c w ∷ es → checked (nat_le w 128) path (width 128 w) ≡ [] → failures_at sig now (child path 0) p ≡ [] → end ≡ marked (has (outputs p)) now → has (earlier_in end) c ≡ false → Tells fault (record { path = path; cause = new_unwritten c }) → TellsFirst fault (failures_at sig es path t)
-hiding_unwritten fault sig es now end path t p c w is pushed allowed clean written missed tells =
-    let inner = failures_at sig (hidden_entry c w ∷ es) (child path 0) p in
-    let lost : has (outputs p) c ≡ false = sym (written-hidden es end c w (outputs p) (written ∙ ap (marked (has (outputs p))) pushed)) ∙ missed in
-    subst (TellsFirst fault) (sym (ap (failures_at sig es path) is)) (TellsFirst-after fault (checked (nat_le w 128) path (width 128 w) ++ inner) (checked (has (outputs p) c) path (new_unwritten c)) (clean-append (checked (nat_le w 128) path (width 128 w)) inner allowed (sym (ap (λ l. failures_at sig l (child path 0) p) pushed) ∙ clean)) (TellsFirst-checked fault (has (outputs p) c) path (new_unwritten c) lost tells))
-
--- no failure under a hidden channel that is written
-pub hiding_clean : (sig : Signature) (es now end : List Entry) (path : List ℕ) (t p : Protocol) (c : Channel) (w : ℕ) → t ≡ hiding c w p → now ≡ hidden_entry c w ∷ es → checked (nat_le w 128) path (width 128 w) ≡ [] → failures_at sig now (child path 0) p ≡ [] → end ≡ marked (has (outputs p)) now → has (earlier_in end) c ≡ true → failures_at sig es path t ≡ []
-hiding_clean sig es now end path t p c w is pushed allowed clean written held =
-    let inner = failures_at sig (hidden_entry c w ∷ es) (child path 0) p in
-    let there : has (outputs p) c ≡ true = sym (written-hidden es end c w (outputs p) (written ∙ ap (marked (has (outputs p))) pushed)) ∙ held in
-    ap (failures_at sig es path) is ∙ clean-append (checked (nat_le w 128) path (width 128 w) ++ inner) (checked (has (outputs p) c) path (new_unwritten c)) (clean-append (checked (nat_le w 128) path (width 128 w)) inner allowed (sym (ap (λ l. failures_at sig l (child path 0) p) pushed) ∙ clean)) (clean-checked (has (outputs p) c) path (new_unwritten c) there)
-
--- a stack that has a channel is not empty
-pub some_visible : (visible : List Visible) (e : Entry) (es : List Entry) → entries_of visible ≡ e ∷ es → 0 < length visible
-some_visible [] e es is = cc
-some_visible (v ∷ visible) e es is = omega arith
-
--- the innermost channel leaves the stack
-entries_of-pop : (visible rest : List Visible) (o : Option Visible) → visible ≡ rest ++ option_to_list o → IsSome o → (e : Entry) × (entries_of visible ≡ e ∷ entries_of rest)
-entries_of-pop visible rest None popped some = absurd (false≢true some)
-entries_of-pop visible rest (Some v) popped some = (entry_of v, entries_of-push rest visible v popped)
+-- the checks of a protocol under a hidden channel, by the last one
+pub hiding_checks : {X : Type 0} (r : Result X TypeFault) (sig : Signature) (es now end : List Entry) (path : List ℕ) (t p : Protocol) (c : Channel) (w : ℕ) → t ≡ hiding c w p → now ≡ unwritten_entry c w true ∷ es → checked (nat_le w 128) path (width 128 w) ≡ [] → failures_in sig now (child path 0) p ≡ [] → end ≡ marked (has (outputs p)) now → AnswersChecks r (checked (has (earlier_in end) c) path (new_unwritten c)) → AnswersChecks r (failures_in sig es path t)
+hiding_checks r sig es now end path t p c w is entered allowed clean written later =
+    let inner = failures_in sig (unwritten_entry c w true ∷ es) (child path 0) p in
+    let none : inner ≡ [] = sym (ap (λ l. failures_in sig l (child path 0) p) entered) ∙ clean in
+    let same : has (earlier_in end) c ≡ has (outputs p) c = written-hidden es end c w (outputs p) (written ∙ ap (marked (has (outputs p))) entered) in
+    subst (AnswersChecks r) (sym (ap (failures_in sig es path) is)) (AnswersChecks-after r (checked (nat_le w 128) path (width 128 w) ++ inner) (checked (has (outputs p) c) path (new_unwritten c)) (clean-append (checked (nat_le w 128) path (width 128 w)) inner allowed none) (subst (λ b. AnswersChecks r (checked b path (new_unwritten c))) same later))
 
 -- what is marked outside of a hidden channel
-pub hiding_written : (es now : List Entry) (end rest : List Visible) (o : Option Visible) (t p : Protocol) (c : Channel) (w : ℕ) → t ≡ hiding c w p → now ≡ hidden_entry c w ∷ es → entries_of end ≡ marked (has (outputs p)) now → end ≡ rest ++ option_to_list o → (0 < length end → IsSome o) → entries_of rest ≡ marked (has (outputs t)) es
-hiding_written es now end rest o t p c w is pushed written popped some =
-    let all : entries_of end ≡ marked (has (outputs p)) (hidden_entry c w ∷ es) = written ∙ ap (marked (has (outputs p))) pushed in
-    let last = entries_of-pop end rest o popped (some (some_visible end (marked_entry (has (outputs p) c) (hidden_entry c w)) (marked (apart_from c (has (outputs p))) es) all)) in
-    marked-outside es (entries_of end) (entries_of rest) last.0 c w (outputs p) all last.1 ∙ ap (λ x. marked (has (outputs x)) es) (sym is)
+pub hiding_written : {X E : Type 0} (r : Result X E) (es now end rest : List Entry) (t p : Protocol) (c : Channel) (w : ℕ) → t ≡ hiding c w p → now ≡ unwritten_entry c w true ∷ es → end ≡ marked (has (outputs p)) now → OnOk r (rest ≡ drop 1 end) → OnOk r (rest ≡ marked (has (outputs t)) es)
+hiding_written r es now end rest t p c w is entered written left =
+    on_ok_weaker r (λ e. e ∙ marked-outside es end c w (outputs p) (written ∙ ap (marked (has (outputs p))) entered) ∙ ap (λ x. marked (has (outputs x)) es) (sym is)) left

@@ -1,8 +1,7 @@
 -- A protocol has no failure exactly where it is typed, and writes what it may write and what was not written.
-use Rattle.std.proofs.Common.{◌≡◌, ℕ, nat_le, Bool, true, false, ◌||◌, not, if◌then◌else◌, List, [], ◌∷◌, ◌++◌, Some, refl, sym, ap, ap₂, ◌∙◌, subst, map}
-use Rattle.std.specs.Prelude.{is_some, unwrap_or, Result, OnOk, IfErr}
+use Rattle.std.proofs.Common.{◌≡◌, ℕ, nat_le, Bool, true, false, ◌||◌, not, if◌then◌else◌, List, [], ◌∷◌, ◌++◌, Some, refl, sym, ap, ap₂, ◌∙◌, subst, map, reverse}
+use Rattle.std.specs.Prelude.{is_some, unwrap_or, Result}
 use Rattle.std.proofs.lemmas.Bool.{false≢true, false_from_ne_true, leb-true}
-use Rattle.std.proofs.lemmas.Result.{on_ok_weaker, IfErr-weaker}
 use Rattle.ipdl_term.specs.Terms.{Channel, Protocol, nil, assignment, parallel, hiding}
 use Rattle.ipdl_term.specs.Channels.{same_channel, has, union, without, outputs}
 use Rattle.ipdl_term.specs.Interpretations.{Signature}
@@ -11,15 +10,14 @@ use Rattle.ipdl_term.specs.declared.interface.Port.{Port}
 use Rattle.ipdl_term.specs.declared.interface.Interface.{Interface}
 use Rattle.ipdl_term.proofs.ChannelSets.{same_channel-sound, has-without, has-union}
 use Rattle.ipdl_typing.specs.Checks.{Failure, width, not_output, twice, new_unwritten, missing, checked, child, reaction_failures, gives_width, Writable, writable_with, protocol_failures, missing_failures}
-use Rattle.ipdl_typing.specs.Answers.{TellsFirst}
-use Rattle.ipdl_typing.specs.Interfaces.{interface_failures, missing_in}
-use Rattle.ipdl_typing.specs.Visible.{Entry, entry_of, entries_of, port_entry, scope_in, writable_in, earlier_in, marked}
+use Rattle.ipdl_typing.specs.Answers.{TellsFirstFailure, AnswersChecks}
+use Rattle.ipdl_typing.specs.Interfaces.{interface_failures, failures_in, missing_in}
+use Rattle.ipdl_typing.specs.Visible.{Entry, port_entry, scope_in, writable_in, earlier_in, marked}
 use Rattle.ipdl_typing.specs.declared.fault.TypeFault.{TypeFault}
-use Rattle.ipdl_typing.specs.declared.visible.Visible.{Visible}
 use Rattle.ipdl_typing.proofs.Exactly.{append-clean, checked-clean, some_from_is_some, gives_width_is, GivesWidth-clean}
-use Rattle.ipdl_typing.proofs.First.{TellsFirst-in_front, TellsFirst-after, clean-append}
-use Rattle.ipdl_typing.proofs.PortScopes.{scope_of-outputs, scope_in-interface, writable_in-interface, earlier_in-interface}
-use Rattle.ipdl_typing.proofs.ProtocolLaws.{failures_at, in_union, in_without, in_one, outputs-writable}
+use Rattle.ipdl_typing.proofs.First.{TellsFirstFailure-in_front, AnswersChecks-after}
+use Rattle.ipdl_typing.proofs.PortScopes.{scope_of-outputs, interface_entries, scope_in-interface, writable_in-interface, earlier_in-interface}
+use Rattle.ipdl_typing.proofs.ProtocolLaws.{in_union, in_without, in_one, outputs-writable}
 use Rattle.ipdl_typing.proofs.VisibleLaws.{has-marked}
 
 -- ---- from no failure
@@ -126,30 +124,34 @@ HasInterface-clean sig interface p clean =
 
 -- ---- what the check of a protocol at an interface answers
 
--- the interface's ports are what is visible
-abbrev AreOpen : Interface → List Visible → Type 0
-AreOpen interface visible =
-    map entry_of visible ≡ map (port_entry false) interface.inputs ++ map (port_entry true) interface.outputs
-
 -- the protocol's own failures
 own_failures : Signature → Interface → Protocol → List Failure
 own_failures sig interface p =
     protocol_failures sig (scope_of (interface.inputs ++ interface.outputs)) (has (port_names interface.outputs)) [] [] p
 
+-- the ports that two calls in a row make visible
+pub entered_ports : (none first second : List Entry) (ins outs inputs outputs : List Port) → none ≡ [] → first ≡ reverse (map (port_entry false) ins) ++ none → second ≡ reverse (map (port_entry true) outs) ++ first → ins ≡ inputs → outs ≡ outputs → second ≡ interface_entries inputs outputs
+entered_ports none first second ins outs inputs outputs empty one two left right =
+    two
+    ∙ ap₂ (λ (ports : List Port) es. reverse (map (port_entry true) ports) ++ es) right (one ∙ ap₂ (λ (ports : List Port) es. reverse (map (port_entry false) ports) ++ es) left empty)
+
 -- the failures where the ports are visible are those at the interface
-failures-open : (sig : Signature) (interface : Interface) (visible : List Visible) (p : Protocol) → AreOpen interface visible → failures_at sig (entries_of visible) [] p ≡ own_failures sig interface p
+failures-ports : (sig : Signature) (interface : Interface) (es : List Entry) (p : Protocol) → es ≡ interface_entries interface.inputs interface.outputs → failures_in sig es [] p ≡ own_failures sig interface p
 unfolding own_failures
-failures-open sig interface visible p opened =
-    ap (λ scope. protocol_failures sig scope (writable_in (entries_of visible)) (earlier_in (entries_of visible)) [] p) (scope_in-interface visible interface.inputs interface.outputs opened)
-    ∙ ap (λ writable. protocol_failures sig (scope_of (interface.inputs ++ interface.outputs)) writable (earlier_in (entries_of visible)) [] p) (writable_in-interface visible interface.inputs interface.outputs opened)
-    ∙ ap (λ earlier. protocol_failures sig (scope_of (interface.inputs ++ interface.outputs)) (has (port_names interface.outputs)) earlier [] p) (earlier_in-interface visible interface.inputs interface.outputs opened)
+failures-ports sig interface es p entered =
+    let all = interface_entries interface.inputs interface.outputs in
+    let scope = scope_of (interface.inputs ++ interface.outputs) in
+    ap (λ l. failures_in sig l [] p) entered
+    ∙ ap (λ s. protocol_failures sig s (writable_in all) (earlier_in all) [] p) (scope_in-interface interface.inputs interface.outputs)
+    ∙ ap (λ writable. protocol_failures sig scope writable (earlier_in all) [] p) (writable_in-interface interface.inputs interface.outputs)
+    ∙ ap (λ earlier. protocol_failures sig scope (has (port_names interface.outputs)) earlier [] p) (earlier_in-interface interface.inputs interface.outputs)
 
 -- what is written in the end
-written-open : (sig : Signature) (interface : Interface) (visible end : List Visible) (p : Protocol) → AreOpen interface visible → failures_at sig (entries_of visible) [] p ≡ [] → entries_of end ≡ marked (has (outputs p)) (entries_of visible) → (c : Channel) → has (earlier_in (entries_of end)) c ≡ has (outputs p) c
-written-open sig interface visible end p opened clean written c =
-    ap (λ es. has (earlier_in es) c) written
-    ∙ has-marked (entries_of visible) (has (outputs p)) c (outputs-writable sig (scope_in (entries_of visible)) (writable_in (entries_of visible)) (earlier_in (entries_of visible)) [] p clean c)
-    ∙ ap (λ cs. has cs c || has (outputs p) c) (earlier_in-interface visible interface.inputs interface.outputs opened)
+written-ports : (sig : Signature) (interface : Interface) (es end : List Entry) (p : Protocol) → es ≡ interface_entries interface.inputs interface.outputs → failures_in sig es [] p ≡ [] → end ≡ marked (has (outputs p)) es → (c : Channel) → has (earlier_in end) c ≡ has (outputs p) c
+written-ports sig interface es end p entered clean written c =
+    ap (λ l. has (earlier_in l) c) written
+    ∙ has-marked es (has (outputs p)) c (outputs-writable sig (scope_in es) (writable_in es) (earlier_in es) [] p clean c)
+    ∙ ap (λ cs. has cs c || has (outputs p) c) (ap earlier_in entered ∙ earlier_in-interface interface.inputs interface.outputs)
 
 -- the ports that were not marked are the outputs that are not written
 missing_in-written : (ports : List Port) (es : List Entry) (p : Protocol) → ((c : Channel) → has (earlier_in es) c ≡ has (outputs p) c) → missing_in ports es ≡ missing_failures (port_names ports) p
@@ -158,19 +160,13 @@ missing_in-written (q ∷ ports) es p written =
     ap₂ (λ b fs. checked b [] (missing q.name) ++ fs) (written q.name) (missing_in-written ports es p written)
 
 -- a failure of the protocol itself is the first at the interface
-pub interface_own : (fault : TypeFault) (sig : Signature) (interface : Interface) (visible : List Visible) (p : Protocol) → AreOpen interface visible → TellsFirst fault (failures_at sig (entries_of visible) [] p) → TellsFirst fault (interface_failures sig interface p)
+pub interface_own : (fault : TypeFault) (sig : Signature) (interface : Interface) (es : List Entry) (p : Protocol) → es ≡ interface_entries interface.inputs interface.outputs → TellsFirstFailure fault (failures_in sig es [] p) → TellsFirstFailure fault (interface_failures sig interface p)
 unfolding own_failures
-interface_own fault sig interface visible p opened first =
-    TellsFirst-in_front fault (own_failures sig interface p) (missing_failures (port_names interface.outputs) p) (subst (TellsFirst fault) (failures-open sig interface visible p opened) first)
+interface_own fault sig interface es p entered first =
+    TellsFirstFailure-in_front fault (own_failures sig interface p) (missing_failures (port_names interface.outputs) p) (subst (TellsFirstFailure fault) (failures-ports sig interface es p entered) first)
 
--- no failure at the interface where no port is missing
-pub interface_clean : {T E : Type 0} (r : Result T E) (sig : Signature) (interface : Interface) (visible end : List Visible) (p : Protocol) → AreOpen interface visible → failures_at sig (entries_of visible) [] p ≡ [] → entries_of end ≡ marked (has (outputs p)) (entries_of visible) → OnOk r (missing_in interface.outputs (entries_of end) ≡ []) → OnOk r (interface_failures sig interface p ≡ [])
+-- the checks at the interface of a protocol without failures of its own, by those of the missing ports
+pub interface_checks : {X : Type 0} (r : Result X TypeFault) (sig : Signature) (interface : Interface) (es end : List Entry) (p : Protocol) → es ≡ interface_entries interface.inputs interface.outputs → failures_in sig es [] p ≡ [] → end ≡ marked (has (outputs p)) es → AnswersChecks r (missing_in interface.outputs end) → AnswersChecks r (interface_failures sig interface p)
 unfolding own_failures
-interface_clean r sig interface visible end p opened clean written none =
-    on_ok_weaker r (λ e. clean-append (own_failures sig interface p) (missing_failures (port_names interface.outputs) p) (sym (failures-open sig interface visible p opened) ∙ clean) (sym (missing_in-written interface.outputs (entries_of end) p (written-open sig interface visible end p opened clean written)) ∙ e)) none
-
--- the first missing port is the first failure of a protocol that has none of its own
-pub interface_first : {T : Type 0} (r : Result T TypeFault) (sig : Signature) (interface : Interface) (visible end : List Visible) (p : Protocol) → AreOpen interface visible → failures_at sig (entries_of visible) [] p ≡ [] → entries_of end ≡ marked (has (outputs p)) (entries_of visible) → IfErr r (λ fault. TellsFirst fault (missing_in interface.outputs (entries_of end))) → IfErr r (λ fault. TellsFirst fault (interface_failures sig interface p))
-unfolding own_failures
-interface_first r sig interface visible end p opened clean written some =
-    IfErr-weaker r (λ fault. TellsFirst fault (missing_in interface.outputs (entries_of end))) (λ fault. TellsFirst fault (interface_failures sig interface p)) (λ fault first. TellsFirst-after fault (own_failures sig interface p) (missing_failures (port_names interface.outputs) p) (sym (failures-open sig interface visible p opened) ∙ clean) (subst (TellsFirst fault) (missing_in-written interface.outputs (entries_of end) p (written-open sig interface visible end p opened clean written)) first)) some
+interface_checks r sig interface es end p entered clean written later =
+    AnswersChecks-after r (own_failures sig interface p) (missing_failures (port_names interface.outputs) p) (sym (failures-ports sig interface es p entered) ∙ clean) (subst (AnswersChecks r) (missing_in-written interface.outputs end p (written-ports sig interface es end p entered clean written)) later)

@@ -1,6 +1,7 @@
 -- What is typed has no failure, and one width.
 use Rattle.std.proofs.Common.{◌≡◌, ℕ, ◌+◌, ◌≤◌, ◌==◌, nat_le, Bool, true, false, ◌||◌, not, if◌then◌else◌, List, [], ◌∷◌, ◌++◌, slice_get, refl, sym, ap, ap₂, ◌∙◌, subst}
 use Rattle.std.specs.Prelude.{is_some, unwrap_or}
+use Rattle.std.proofs.Math.Bool.{or-true, or-false}
 use Rattle.std.proofs.lemmas.Bool.{false≢true, false_from_ne_true, le-leb, eq-eqb}
 use Rattle.ipdl_term.specs.Terms.{Channel, Expression, literal, variable, outer, application, exclusive, conjunction, negation, concatenation, segment, equality, selection, Reaction, returning, flipping, reading, branching, binding, Protocol, nil, assignment, parallel, hiding}
 use Rattle.ipdl_term.specs.Channels.{same_channel, has, union, without, outputs}
@@ -124,15 +125,11 @@ left_of_union cs ds c is = has-union cs ds c ∙ ap (λ b. b || has ds c) is
 
 -- and of the second part
 right_of_union : (cs ds : List Channel) (c : Channel) → has ds c ≡ true → has (union cs ds) c ≡ true
-right_of_union cs ds c is = has-union cs ds c ∙ ap (λ b. has cs c || b) is ∙ or_true (has cs c)
-  where
-    or_true : (b : Bool) → (b || true) ≡ true
-    or_true true = refl
-    or_true false = refl
+right_of_union cs ds c is = has-union cs ds c ∙ ap (λ b. has cs c || b) is ∙ or-true (has cs c)
 
 -- a channel by itself
 itself : (c : Channel) → has (c ∷ []) c ≡ true
-itself c = ap (λ b. b || false) (same_channel-itself c)
+itself c = or-false (same_channel c c) ∙ same_channel-itself c
 
 -- a typed protocol that writes what it may, and nothing twice, has no failure
 pub protocol-IsTyped : (sig : Signature) (scope : Scope) (writable : Writable) (earlier : List Channel) (path : List ℕ) (p : Protocol) → IsTyped sig scope p → ((c : Channel) → has (outputs p) c ≡ true → writable c ≡ true) → ((c : Channel) → has (outputs p) c ≡ true → has earlier c ≡ false) → protocol_failures sig scope writable earlier path p ≡ []

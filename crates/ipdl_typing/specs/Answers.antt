@@ -1,5 +1,5 @@
 -- What the calls answer, in the words of the checks.
-use Rattle.std.specs.Prelude.{◌≡◌, List, Some}
+use Rattle.std.specs.Prelude.{◌≡◌, ℕ, List, [], Some, Result, Ok, Err}
 use Rattle.ipdl_typing.specs.Checks.{Cause, width, unbound, no_symbol, unwritten, not_output, twice, new_unwritten, missing, interface, Failure, first_failure}
 use Rattle.ipdl_typing.specs.declared.fault.Ill.{Ill as Told}
 use Rattle.ipdl_typing.specs.declared.fault.IllCause.{IllCause}
@@ -28,5 +28,15 @@ pub record Tells (fault : TypeFault) (f : Failure) : Type 0 where
   pub told : (ill : Told) → fault ≡ T.Ill ill → failure_of ill ≡ f
 
 -- the fault is the first of the failures, want of memory apart
-pub record TellsFirst (fault : TypeFault) (fs : List Failure) : Type 0 where
+pub record TellsFirstFailure (fault : TypeFault) (fs : List Failure) : Type 0 where
   pub told : (ill : Told) → fault ≡ T.Ill ill → first_failure fs ≡ Some (failure_of ill)
+
+-- a call says yes where no check fails, and else tells the first that does
+abbrev pub AnswersChecks : {X : Type 0} → Result X TypeFault → List Failure → Type 0
+AnswersChecks (Ok x) fs = fs ≡ []
+AnswersChecks (Err fault) fs = TellsFirstFailure fault fs
+
+-- a call answers the width where no check fails, and else tells the first that does
+abbrev pub AnswersWidth : Result ℕ TypeFault → ℕ → List Failure → Type 0
+AnswersWidth (Ok w) v fs = (w ≡ v) × (fs ≡ [])
+AnswersWidth (Err fault) v fs = TellsFirstFailure fault fs

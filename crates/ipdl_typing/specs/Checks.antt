@@ -95,6 +95,10 @@ expression_failures sig widths path (selection c a b) =
     ++ expression_failures sig widths (child path 1) a
     ++ expression_failures sig widths (child path 2) b ++ has_width sig widths (child path 2) b (expression_width sig widths a)
 
+-- the failures of an expression at a place where this width is wanted
+abbrev pub wanted_failures : Signature → List ℕ → List ℕ → Expression → ℕ → List Failure
+wanted_failures sig widths path e want = expression_failures sig widths path e ++ has_width sig widths path e want
+
 -- ---- reactions, where the channels of the scope are visible
 
 -- the width that a reaction gives if all its checks hold

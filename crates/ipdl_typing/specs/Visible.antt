@@ -1,5 +1,7 @@
--- The visible channels at a place, the innermost first. The innermost one of a name counts.
-use Rattle.std.specs.Prelude.{◌≡◌, ◌<◌, ℕ, suc, length, Bool, false, ◌||◌, List, [], ◌∷◌, map, drop, reverse, slice_get, Option, Some, None, IsSomeAnd, if◌then◌else◌}
+-- The visible channels at a place, the innermost one of a name counting, and the index by which the program finds them.
+use Rattle.std.specs.Borrow.{Bor}
+use Rattle.std.specs.HashMap.{HashMap, get_by}
+use Rattle.std.specs.Prelude.{◌≡◌, ℕ, length, Bool, false, ◌||◌, List, [], ◌∷◌, map, reverse, Option, Some, None, if◌then◌else◌, bytes_eq}
 use Rattle.ipdl_term.specs.Terms.{Channel}
 use Rattle.ipdl_term.specs.Channels.{same_channel, without}
 use Rattle.ipdl_term.specs.Typing.{Scope, no_scope, scope_with}
@@ -15,16 +17,20 @@ pub record Entry : Type 0 where
   pub written : Bool
 
 -- what the program's record of a channel stands for
-abbrev pub entry_of : Visible → Entry
-entry_of v = record { name = v.name.now; width = v.width; writable = v.writable; written = v.written }
+abbrev pub visible_entry : Visible → Entry
+visible_entry v = record { name = v.name.now; width = v.width; writable = v.writable; written = v.written }
 
 -- the program's stack has the innermost one last
 abbrev pub entries_of : List Visible → List Entry
-entries_of visible = reverse (map entry_of visible)
+entries_of stack = map visible_entry (reverse stack)
+
+-- a channel that was not written
+abbrev pub unwritten_entry : Channel → ℕ → Bool → Entry
+unwritten_entry c w writable = record { name = c; width = w; writable = writable; written = false }
 
 -- ports, of which none is written
 abbrev pub port_entry : Bool → Port → Entry
-port_entry writable port = record { name = port.name; width = port.width; writable = writable; written = false }
+port_entry writable port = unwritten_entry port.name port.width writable
 
 -- the innermost one of a name
 abbrev pub innermost : List Entry → Channel → Option Entry
@@ -59,8 +65,23 @@ abbrev pub marked : (Channel → Bool) → List Entry → List Entry
 marked test [] = []
 marked test (e ∷ es) = marked_entry (test e.name) e ∷ marked (apart_from e.name test) es
 
--- in a list with the innermost one last, the place of the innermost one of a name
-pub record IsInnermost (visible : List Visible) (c : Channel) (place : ℕ) : Type 0 where
-  pub within : place < length visible
-  pub named : IsSomeAnd (slice_get visible place) (λ v. v.name.now ≡ c)
-  pub inside : innermost (entries_of (drop (suc place) visible)) c ≡ None
+-- ---- the program's index
+
+-- the index of the innermost one of a name, counted from the outermost channel
+abbrev pub index_in : List Visible → Channel → Option ℕ
+index_in [] c = None
+index_in (v ∷ vs) c = if same_channel v.name.now c then Some (length vs) else index_in vs c
+
+-- each channel knows the index of the next one of its name outside
+abbrev pub AreLinked : List Visible → Type 0
+AreLinked [] = Unit {0}
+AreLinked (v ∷ vs) = (v.outer ≡ index_in vs v.name.now) × AreLinked vs
+
+-- what the map has under a name
+abbrev pub found_in : {S : Type 0} → HashMap (Bor (List ℕ)) ℕ S → Channel → Option ℕ
+found_in index c = get_by (λ key. bytes_eq c key.now) index
+
+-- the look-up finds the innermost channel of each name in the stack
+pub record IsIndexed (stack : List Visible) (found : Channel → Option ℕ) : Type 0 where
+  pub linked : AreLinked (reverse stack)
+  pub finds : (c : Channel) → found c ≡ index_in (reverse stack) c

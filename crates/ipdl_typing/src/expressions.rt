@@ -1,34 +1,53 @@
+//! The widths of expressions.
+
 ghost use Rattle.std.specs.Prelude.{◌≡◌, [], reverse, IfOk, IfErr, OnOk};
 ghost use Rattle.ipdl_term.specs.Typing.{HasWidth};
 ghost use Rattle.ipdl_term.specs.Views.{expression_of};
-ghost use Rattle.ipdl_typing.specs.Answers.{TellsFirst};
-ghost use Rattle.ipdl_typing.specs.Binders.{widths_of};
-ghost use Rattle.ipdl_typing.specs.Checks.{expression_width, expression_failures};
+ghost use Rattle.ipdl_typing.specs.Answers.{TellsFirstFailure, AnswersWidth};
+ghost use Rattle.ipdl_typing.specs.BinderWidths.{widths_of};
+ghost use Rattle.ipdl_typing.specs.Checks.{expression_width, expression_failures, wanted_failures};
 ghost use Rattle.ipdl_typing.specs.Places.{path_of};
 ghost use Rattle.ipdl_typing.specs.Signatures.{signature_of};
 
-use crate::binders::Binders;
+use crate::binder_widths::BinderWidths;
 use crate::fault::{IllCause, TypeFault};
-use crate::place::{GREATEST_WIDTH, Place};
+use crate::place::Place;
 use ipdl_sig::Sig;
 use ipdl_term::Expr;
 use std::alloc::Global;
 
-// The width of the expression at the place, if all its checks hold.
-pub(crate) fn expr_width(
-    term: &Expr,
+// The wanted width, if the expression at the place has it.
+#[cycle(expression)]
+fn expect_expr(
     alloc: Global,
     sig: &Sig,
-    binders: &Binders,
+    term: &Expr,
+    binders: &BinderWidths,
+    place: &Place,
+    want: u8,
+) -> Result<u8, TypeFault>
+    ensures { AnswersWidth result want
+        (wanted_failures (signature_of sig.now) (widths_of binders.now) (path_of place.now)
+        (expression_of term.now) want) }
+{
+    let got = expr_width(alloc, sig, term, binders, place)?;
+    place.expect_width(alloc, want, got)?;
+    Ok(want)
+}
+
+// The width of the expression at the place, if all its checks hold.
+#[cycle(expression)]
+pub(crate) fn expr_width(
+    alloc: Global,
+    sig: &Sig,
+    term: &Expr,
+    binders: &BinderWidths,
     place: &Place,
 ) -> Result<u8, TypeFault>
-    ensures width { IfOk result (λ w. w ≡
-        expression_width (signature_of sig.now) (widths_of binders.now) (expression_of term.now)) }
-    ensures clean { OnOk result (expression_failures (signature_of sig.now)
-        (widths_of binders.now) (path_of place.now) (expression_of term.now) ≡ []) }
-    ensures first { IfErr result (λ fault. TellsFirst fault
-        (expression_failures (signature_of sig.now)
-        (widths_of binders.now) (path_of place.now) (expression_of term.now))) }
+    ensures { AnswersWidth result
+        (expression_width (signature_of sig.now) (widths_of binders.now) (expression_of term.now))
+        (expression_failures (signature_of sig.now) (widths_of binders.now) (path_of place.now)
+        (expression_of term.now)) }
 {
     match term {
         Expr::Lit(bits) => Ok(bits.width()),
@@ -41,59 +60,41 @@ pub(crate) fn expr_width(
             let Some(symbol) = sig.symbol(*number) else {
                 return Err(place.fault(alloc, IllCause::NoSymbol { number: *number }));
             };
-            let first = Place::Child(place, 0);
-            let got = expr_width(e, alloc, sig, binders, &first)?;
-            first.expect_width(alloc, symbol.from, got)?;
+            expect_expr(
+                alloc,
+                sig,
+                e,
+                binders,
+                &Place::Child(&*place, 0),
+                symbol.from,
+            )?;
             Ok(symbol.to)
         }
         Expr::Xor(a, b) | Expr::And(a, b) => {
-            let want = expr_width(a, alloc, sig, binders, &Place::Child(place, 0))?;
-            let second = Place::Child(place, 1);
-            let got = expr_width(b, alloc, sig, binders, &second)?;
-            second.expect_width(alloc, want, got)?;
-            Ok(want)
+            let want = expr_width(alloc, sig, a, binders, &Place::Child(&*place, 0))?;
+            expect_expr(alloc, sig, b, binders, &Place::Child(&*place, 1), want)
         }
-        Expr::Not(a) => expr_width(a, alloc, sig, binders, &Place::Child(place, 0)),
+        Expr::Not(a) => expr_width(alloc, sig, a, binders, &Place::Child(&*place, 0)),
         Expr::Cat(a, b) => {
-            let high = expr_width(a, alloc, sig, binders, &Place::Child(place, 0))?;
-            let low = expr_width(b, alloc, sig, binders, &Place::Child(place, 1))?;
-            let got = u16::from(high) + u16::from(low);
-            if got > GREATEST_WIDTH {
-                return Err(place.fault(
-                    alloc,
-                    IllCause::Width {
-                        want: GREATEST_WIDTH,
-                        got,
-                    },
-                ));
-            }
-            Ok(high + low)
+            let high = expr_width(alloc, sig, a, binders, &Place::Child(&*place, 0))?;
+            let low = expr_width(alloc, sig, b, binders, &Place::Child(&*place, 1))?;
+            place.expect_sum(alloc, high, low)
         }
         Expr::Cut(from, count, a) => {
-            let first = Place::Child(place, 0);
-            let got = u16::from(expr_width(a, alloc, sig, binders, &first)?);
-            let want = u16::from(*from) + u16::from(*count);
-            if want > got {
-                return Err(first.fault(alloc, IllCause::Width { want, got }));
-            }
+            let first = Place::Child(&*place, 0);
+            let got = expr_width(alloc, sig, a, binders, &first)?;
+            first.expect_within(alloc, *from, *count, got)?;
             Ok(*count)
         }
         Expr::Same(a, b) => {
-            let want = expr_width(a, alloc, sig, binders, &Place::Child(place, 0))?;
-            let second = Place::Child(place, 1);
-            let got = expr_width(b, alloc, sig, binders, &second)?;
-            second.expect_width(alloc, want, got)?;
+            let want = expr_width(alloc, sig, a, binders, &Place::Child(&*place, 0))?;
+            expect_expr(alloc, sig, b, binders, &Place::Child(&*place, 1), want)?;
             Ok(1)
         }
-        Expr::Mux(c, a, b) => {
-            let first = Place::Child(place, 0);
-            let test = expr_width(c, alloc, sig, binders, &first)?;
-            first.expect_width(alloc, 1, test)?;
-            let want = expr_width(a, alloc, sig, binders, &Place::Child(place, 1))?;
-            let third = Place::Child(place, 2);
-            let got = expr_width(b, alloc, sig, binders, &third)?;
-            third.expect_width(alloc, want, got)?;
-            Ok(want)
+        Expr::Mux(test, a, b) => {
+            expect_expr(alloc, sig, test, binders, &Place::Child(&*place, 0), 1)?;
+            let want = expr_width(alloc, sig, a, binders, &Place::Child(&*place, 1))?;
+            expect_expr(alloc, sig, b, binders, &Place::Child(&*place, 2), want)
         }
     }
 }
@@ -105,9 +106,9 @@ pub fn check_expr(alloc: Global, sig: &Sig, widths: &[u8], term: &Expr) -> Resul
         HasWidth (signature_of sig.now) (reverse widths.now) (expression_of term.now) w) }
     ensures clean { OnOk result (expression_failures (signature_of sig.now)
         (reverse widths.now) [] (expression_of term.now) ≡ []) }
-    ensures first { IfErr result (λ fault. TellsFirst fault
+    ensures first { IfErr result (λ fault. TellsFirstFailure fault
         (expression_failures (signature_of sig.now) (reverse widths.now) []
         (expression_of term.now))) }
 {
-    expr_width(term, alloc, sig, &Binders::Given(widths), &Place::Root)
+    expr_width(alloc, sig, term, &BinderWidths::Given(widths), &Place::Root)
 }

@@ -1,3 +1,5 @@
+//! What a check answers where the term is ill typed.
+
 ghost use Rattle.std.specs.Prelude.{◌≡◌};
 ghost use Rattle.ipdl_typing.specs.declared.fault.TypeFault.TheVariants.{Memory};
 
@@ -5,7 +7,7 @@ use ipdl_base::{Name, NoMemory, Path};
 use std::alloc::AllocFailed;
 
 /// A check that fails, at a place in the term.
-#[derive(Debug, Drop, PartialEq, Eq)]
+#[derive(Drop)]
 pub struct Ill {
     /// The place: of the node that has the check, or of the child whose width is at fault.
     pub path: Path,
@@ -14,7 +16,7 @@ pub struct Ill {
 }
 
 /// Which check fails.
-#[derive(Debug, Drop, PartialEq, Eq)]
+#[derive(Drop)]
 pub enum IllCause {
     /// The width of the node is not the wanted one, or not within the wanted one. Both in bits.
     Width { want: u16, got: u16 },
@@ -37,7 +39,7 @@ pub enum IllCause {
 }
 
 /// Why a check does not say yes.
-#[derive(Debug, Drop, PartialEq, Eq)]
+#[derive(Drop)]
 pub enum TypeFault {
     /// The term is ill typed: its first check that fails.
     Ill(Ill),

@@ -1,13 +1,13 @@
 //! The laws of the checks. Each is a function that does nothing and has the law as its contract,
 //! so that the check proves it.
 
-ghost use Rattle.std.specs.Prelude.{◌≡◌, ◌↔◌, ℕ, List, []};
+ghost use Rattle.std.specs.Prelude.{◌≡◌, ◌↔◌, ◌++◌, ℕ, List, []};
 ghost use Rattle.ipdl_term.specs.Interpretations.{Signature};
 ghost use Rattle.ipdl_term.specs.Terms.{Expression, Reaction, Protocol};
 ghost use Rattle.ipdl_term.specs.Typing.{Scope, HasWidth, GivesWidth, HasInterface};
 ghost use Rattle.ipdl_term.specs.declared.interface.Interface.{Interface as Declared};
 ghost use Rattle.ipdl_typing.specs.Checks.{side_failures, expression_width, expression_failures, reaction_width, reaction_failures};
-ghost use Rattle.ipdl_typing.specs.Interfaces.{SamePorts, interface_failures};
+ghost use Rattle.ipdl_typing.specs.Interfaces.{SamePorts, HasEachNameOnce, interface_failures};
 
 /// An expression has one width at most, and so do the values that a reaction gives.
 pub fn one_width()
@@ -34,4 +34,13 @@ pub fn typed_exactly()
 pub fn same_exactly()
     ensures { (left right : Declared) → (side_failures left right ≡ [])
         ↔ (SamePorts left.inputs right.inputs × SamePorts left.outputs right.outputs) }
+{}
+
+/// A protocol that has an interface also has each one with the same ports, if that one has no two
+/// ports of one name.
+pub fn same_ports_same_type()
+    ensures { (sig : Signature) (left right : Declared) (p : Protocol) →
+        HasEachNameOnce (right.inputs ++ right.outputs) →
+        SamePorts left.inputs right.inputs → SamePorts left.outputs right.outputs →
+        HasInterface sig left p → HasInterface sig right p }
 {}

@@ -2,7 +2,7 @@
 //! the first check that fails, with its place.
 #![tactic(auto)]
 
-mod binders;
+mod binder_widths;
 mod expressions;
 mod fault;
 pub mod laws;

@@ -1,49 +1,47 @@
+//! The widths of the values that reactions give.
+
 ghost use Rattle.std.specs.Prelude.{◌≡◌, [], reverse, IfOk, IfErr, OnOk};
 ghost use Rattle.ipdl_term.specs.Typing.{GivesWidth, scope_of};
 ghost use Rattle.ipdl_term.specs.Views.{reaction_of};
-ghost use Rattle.ipdl_typing.specs.Answers.{TellsFirst};
-ghost use Rattle.ipdl_typing.specs.Binders.{widths_of};
+ghost use Rattle.ipdl_typing.specs.Answers.{TellsFirstFailure, AnswersWidth};
+ghost use Rattle.ipdl_typing.specs.BinderWidths.{widths_of};
 ghost use Rattle.ipdl_typing.specs.Checks.{reaction_width, reaction_failures};
 ghost use Rattle.ipdl_typing.specs.Places.{path_of};
 ghost use Rattle.ipdl_typing.specs.Signatures.{signature_of};
-ghost use Rattle.ipdl_typing.specs.Visible.{entries_of, scope_in};
+ghost use Rattle.ipdl_typing.specs.Visible.{scope_in};
 
-use crate::binders::Binders;
+use crate::binder_widths::BinderWidths;
 use crate::expressions::expr_width;
 use crate::fault::{IllCause, TypeFault};
 use crate::place::Place;
-use crate::visible::{Visible, push_ports, width_of};
+use crate::visible::VisibleChannels;
 use ipdl_sig::Sig;
 use ipdl_term::{Port, React};
 use std::alloc::Global;
 
 // The width of the values that the reaction at the place gives, if all its checks hold.
 pub(crate) fn react_width(
-    term: &React,
     alloc: Global,
     sig: &Sig,
-    visible: &[Visible],
-    binders: &Binders,
+    visible: &VisibleChannels,
+    term: &React,
+    binders: &BinderWidths,
     place: &Place,
 ) -> Result<u8, TypeFault>
-    ensures width { IfOk result (λ w. w ≡ reaction_width (signature_of sig.now)
-        (scope_in (entries_of visible.now)) (widths_of binders.now) (reaction_of term.now)) }
-    ensures clean { OnOk result (reaction_failures (signature_of sig.now)
-        (scope_in (entries_of visible.now)) (widths_of binders.now) (path_of place.now)
-        (reaction_of term.now) ≡ []) }
-    ensures first { IfErr result (λ fault. TellsFirst fault
-        (reaction_failures (signature_of sig.now)
-        (scope_in (entries_of visible.now)) (widths_of binders.now) (path_of place.now)
-        (reaction_of term.now))) }
+    ensures { AnswersWidth result
+        (reaction_width (signature_of sig.now) (scope_in visible.now) (widths_of binders.now)
+        (reaction_of term.now))
+        (reaction_failures (signature_of sig.now) (scope_in visible.now) (widths_of binders.now)
+        (path_of place.now) (reaction_of term.now)) }
 {
     // `&*` lends the place and the binders anew, for as long as the child is checked.
     match term {
-        React::Ret(e) => expr_width(e, alloc, sig, binders, &Place::Child(&*place, 0)),
+        React::Ret(e) => expr_width(alloc, sig, e, binders, &Place::Child(&*place, 0)),
         React::Flip(width) => {
             place.expect_allowed(alloc, *width)?;
             Ok(*width)
         }
-        React::Read(channel) => match width_of(visible, channel) {
+        React::Read(channel) => match visible.width_of(channel) {
             Some(width) => Ok(width),
             None => {
                 let name = channel.copy(alloc)?;
@@ -52,20 +50,21 @@ pub(crate) fn react_width(
         },
         React::Cond(e, r, s) => {
             let first = Place::Child(&*place, 0);
-            let test = expr_width(e, alloc, sig, binders, &first)?;
+            let test = expr_width(alloc, sig, e, binders, &first)?;
             first.expect_width(alloc, 1, test)?;
-            let want = react_width(r, alloc, sig, visible, binders, &Place::Child(&*place, 1))?;
+            let second = Place::Child(&*place, 1);
+            let want = react_width(alloc, sig, visible, r, binders, &second)?;
             let third = Place::Child(&*place, 2);
-            let got = react_width(s, alloc, sig, visible, binders, &third)?;
+            let got = react_width(alloc, sig, visible, s, binders, &third)?;
             third.expect_width(alloc, want, got)?;
             Ok(want)
         }
         React::Bind(width, r, s) => {
             let first = Place::Child(&*place, 0);
-            let got = react_width(r, alloc, sig, visible, binders, &first)?;
+            let got = react_width(alloc, sig, visible, r, binders, &first)?;
             first.expect_width(alloc, *width, got)?;
-            let inner = Binders::Inner(&*binders, *width);
-            react_width(s, alloc, sig, visible, &inner, &Place::Child(&*place, 1))
+            let inner = BinderWidths::Inner(&*binders, *width);
+            react_width(alloc, sig, visible, s, &inner, &Place::Child(&*place, 1))
         }
     }
 }
@@ -84,18 +83,18 @@ pub fn check_react(
         (scope_of scope.now) (reverse widths.now) (reaction_of term.now) w) }
     ensures clean { OnOk result (reaction_failures (signature_of sig.now)
         (scope_of scope.now) (reverse widths.now) [] (reaction_of term.now) ≡ []) }
-    ensures first { IfErr result (λ fault. TellsFirst fault
+    ensures first { IfErr result (λ fault. TellsFirstFailure fault
         (reaction_failures (signature_of sig.now)
         (scope_of scope.now) (reverse widths.now) [] (reaction_of term.now))) }
 {
-    let mut visible = Vec::new(alloc);
-    push_ports(&mut visible, scope, false)?;
+    let mut visible = VisibleChannels::new(alloc);
+    visible.enter_ports(scope, false)?;
     react_width(
-        term,
         alloc,
         sig,
-        visible.as_slice(),
-        &Binders::Given(widths),
+        &visible,
+        term,
+        &BinderWidths::Given(widths),
         &Place::Root,
     )
 }

@@ -1,6 +1,8 @@
+//! Two interfaces, compared by the names and widths of their ports.
+
 ghost use Rattle.std.specs.HashSet.{contains_by};
 ghost use Rattle.std.specs.Prelude.{◌≡◌, ◌&&◌, [], IfErr, IfOk, OnOk, bytes_eq, nat_eq};
-ghost use Rattle.ipdl_typing.specs.Answers.{TellsFirst};
+ghost use Rattle.ipdl_typing.specs.Answers.{TellsFirstFailure, AnswersChecks};
 ghost use Rattle.ipdl_typing.specs.Checks.{has_port, lacking, side_failures};
 ghost use Rattle.ipdl_typing.specs.Interfaces.{SamePorts};
 
@@ -28,8 +30,7 @@ fn keys_of<'a>(alloc: Global, ports: &'a [Port]) -> Result<HashSet<(&'a Name, u8
 // Checks that the second list has each port of the first. Lists that are written alike are not
 // looked up.
 fn check_within<'a>(alloc: Global, ports: &'a [Port], others: &'a [Port]) -> Result<(), TypeFault>
-    ensures clean { OnOk result (lacking ports.now others.now ≡ []) }
-    ensures first { IfErr result (λ fault. TellsFirst fault (lacking ports.now others.now)) }
+    ensures { AnswersChecks result (lacking ports.now others.now) }
 {
     if ports == others {
         return Ok(());
@@ -52,7 +53,7 @@ pub fn check_sides(alloc: Global, left: &Interface, right: &Interface) -> Result
     ensures inputs { OnOk result (SamePorts left.now.inputs right.now.inputs) }
     ensures outputs { OnOk result (SamePorts left.now.outputs right.now.outputs) }
     ensures clean { OnOk result (side_failures left.now right.now ≡ []) }
-    ensures first { IfErr result (λ fault. TellsFirst fault (side_failures left.now right.now)) }
+    ensures first { IfErr result (λ fault. TellsFirstFailure fault (side_failures left.now right.now)) }
 {
     check_within(alloc, left.inputs.as_slice(), right.inputs.as_slice())?;
     check_within(alloc, left.outputs.as_slice(), right.outputs.as_slice())?;

@@ -1,17 +1,17 @@
 use Rattle.std.proofs.Common.{rules, ◌≡◌, ◌+◌, ◌<◌, true, false, [], ◌++◌, drop, get_or, length, sym, ap, ◌∙◌, subst}
-use Rattle.ipdl_typing.specs.Answers.{Tells, TellsFirst}
+use Rattle.ipdl_typing.specs.Answers.{Tells, TellsFirstFailure}
 use Rattle.ipdl_typing.specs.Checks.{checked, has_port, interface, lacking}
-use Rattle.ipdl_typing.proofs.First.{TellsFirst-in_front, TellsFirst-checked}
+use Rattle.ipdl_typing.proofs.First.{TellsFirstFailure-in_front, TellsFirstFailure-checked}
 use Rattle.ipdl_typing.proofs.Ports.{lacking-alike, lacking-drop}
 use Rattle.ipdl_typing.proofs.sides.check_within.Goals as goal
 
-pub returns-then-eq-clause-clean : goal.returns-then-eq-clause-clean
-returns-then-eq-clause-clean c =
+pub returns-then-eq : goal.returns-then-eq
+returns-then-eq c =
     lacking-alike c.args.ports.now c.args.others.now c.eq.result c.eq.ensures c.if-eq.true
 
 -- the port is the first that is not there
-pub returns-then-not-contains-clause-first : goal.returns-then-not-contains-clause-first
-returns-then-not-contains-clause-first c =
+pub returns-then-not-contains : goal.returns-then-not-contains
+returns-then-not-contains c =
     let ps = c.args.ports.now in
     let qs = c.args.others.now in
     let i = c.loop-port.port-index in
@@ -22,8 +22,8 @@ returns-then-not-contains-clause-first c =
     let absent : c.contains.result ≡ false = search rules in
     let fails : has_port qs x ≡ false = sym (c.in_ok-keys.ensures x) ∙ sym c.contains.ensures ∙ absent in
     let tells = subst (λ name. Tells fault (record { path = []; cause = interface name })) c.in_ok-name.ensures c.fault.ensures in
-    let first = TellsFirst-checked fault (has_port qs x) [] (interface x.name) fails tells in
-    subst (TellsFirst fault) (sym (c.loop-port.invariant ∙ lacking-drop ps qs i x within at)) (TellsFirst-in_front fault (checked (has_port qs x) [] (interface x.name)) (lacking (drop (i + 1) ps) qs) first)
+    let first = TellsFirstFailure-checked fault (has_port qs x) [] (interface x.name) fails tells in
+    subst (TellsFirstFailure fault) (sym (c.loop-port.invariant ∙ lacking-drop ps qs i x within at)) (TellsFirstFailure-in_front fault (checked (has_port qs x) [] (interface x.name)) (lacking (drop (i + 1) ps) qs) first)
 
 pub loop-port-preserved : goal.loop-port-preserved
 loop-port-preserved c =

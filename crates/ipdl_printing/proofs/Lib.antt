@@ -1,2 +1,6 @@
+pub mod Blanks
+pub mod Forms
+pub mod PlainNames
 pub mod PrintedDepth
-pub mod PrintedPlaces
+pub mod PrintedOffsets
+pub mod Words

@@ -3,13 +3,13 @@ use Rattle.std.specs.Prelude.{ℕ, ◌+◌, ◌-◌, List, [], ◌∷◌, ◌++�
 use Rattle.std.specs.Fmt.{decimal}
 use Rattle.ipdl_sig.specs.declared.symbol.Symbol.{Symbol}
 use Rattle.ipdl_sig.specs.Symbols.{names_of}
-use Rattle.ipdl_tree.specs.Trees.{Placed, word, number, group}
+use Rattle.ipdl_tree.specs.Trees.{Located, word, number, group}
 use Rattle.ipdl_tree.specs.Trees as Trees
 use Rattle.ipdl_tree.specs.Views.{forest}
 use Rattle.ipdl_term.specs.Terms.{Channel, Expression, literal, variable, outer, application, exclusive, conjunction, negation, concatenation, segment, equality, selection, Reaction, returning, flipping, reading, branching, binding, Protocol, nil, assignment, parallel, hiding, Context, hole, in_left, in_right, in_hiding}
 
 -- a list with a word in front
-abbrev pub headed : List ℕ → List Placed → Placed
+abbrev pub headed : List ℕ → List Located → Located
 headed head parts = group 0 (forest (word 0 head ∷ parts))
 
 -- the name of the binder at a depth, counted from the outermost one
@@ -26,7 +26,7 @@ symbol_name symbols f = name_or_nothing (slice_get (names_of symbols) f)
 
 -- ---- expressions and reactions, under so many binders
 
-abbrev pub expression_tree : List Symbol → ℕ → Expression → Placed
+abbrev pub expression_tree : List Symbol → ℕ → Expression → Located
 expression_tree symbols depth (literal bits) = Trees.literal 0 bits
 expression_tree symbols depth (variable n) = word 0 (binder_name (depth - 1 - n))
 expression_tree symbols depth (outer n) = word 0 (binder_name n)
@@ -46,7 +46,7 @@ expression_tree symbols depth (selection c a b) =
     headed (codes "mux")
     (expression_tree symbols depth c ∷ expression_tree symbols depth a ∷ expression_tree symbols depth b ∷ [])
 
-abbrev pub reaction_tree : List Symbol → ℕ → Reaction → Placed
+abbrev pub reaction_tree : List Symbol → ℕ → Reaction → Located
 reaction_tree symbols depth (returning e) = headed (codes "ret") (expression_tree symbols depth e ∷ [])
 reaction_tree symbols depth (flipping w) = headed (codes "flip") (number 0 w ∷ [])
 reaction_tree symbols depth (reading c) = headed (codes "read") (word 0 c ∷ [])
@@ -62,13 +62,13 @@ reaction_tree symbols depth (binding w r s) =
 
 -- what a protocol is printed as: alone; as the last parts of a `par`; and as its outer ports and what stands in them
 pub record Printed : Type 0 where
-  pub whole : Placed
-  pub parts : List Placed
-  pub ports : List Placed
-  pub body : Placed
+  pub whole : Located
+  pub parts : List Located
+  pub ports : List Located
+  pub body : Located
 
 -- what is no `par` and no `new`
-abbrev pub alone : Placed → Printed
+abbrev pub alone : Located → Printed
 alone t = record { whole = t; parts = t ∷ []; ports = []; body = t }
 
 abbrev pub beside : Printed → Printed → Printed
@@ -76,7 +76,7 @@ beside left right =
     let parts = left.whole ∷ right.parts in
     record { whole = headed (codes "par") parts; parts = parts; ports = []; body = headed (codes "par") parts }
 
-abbrev pub port_tree : Channel → ℕ → Placed
+abbrev pub port_tree : Channel → ℕ → Located
 port_tree c w = group 0 (forest (word 0 c ∷ number 0 w ∷ []))
 
 abbrev pub under : Channel → ℕ → Printed → Printed
@@ -97,8 +97,8 @@ printed_context symbols (in_left rest q) = beside (printed_context symbols rest)
 printed_context symbols (in_right p rest) = beside (printed_protocol symbols p) (printed_context symbols rest)
 printed_context symbols (in_hiding c w rest) = under c w (printed_context symbols rest)
 
-abbrev pub protocol_tree : List Symbol → Protocol → Placed
+abbrev pub protocol_tree : List Symbol → Protocol → Located
 protocol_tree symbols p = (printed_protocol symbols p).whole
 
-abbrev pub context_tree : List Symbol → Context → Placed
+abbrev pub context_tree : List Symbol → Context → Located
 context_tree symbols rest = (printed_context symbols rest).whole

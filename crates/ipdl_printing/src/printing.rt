@@ -1,12 +1,15 @@
-ghost use Rattle.std.specs.Prelude.{◌≡◌, length, IfOk};
+//! The text of one term alone.
+
+ghost use Rattle.std.specs.Prelude.{[], length, IfOk};
 ghost use Rattle.ipdl_printing.specs.Printing.{expression_tree, reaction_tree, protocol_tree, context_tree};
-ghost use Rattle.ipdl_printing.specs.Within.{IsExpressionWithin, IsReactionWithin, IsProtocolWithin, IsContextWithin};
-ghost use Rattle.ipdl_tree.specs.Spelling.{tree_text};
+ghost use Rattle.ipdl_term.specs.Within.{IsExpressionWithin, IsReactionWithin, IsProtocolWithin, IsContextWithin};
+ghost use Rattle.ipdl_printing.specs.Writes.{WritesTree};
 ghost use Rattle.ipdl_term.specs.Views.{expression_of, reaction_of, protocol_of, context_of};
 
 use crate::contexts::push_ctx;
+use crate::expressions::push_expr;
 use crate::protocols::push_proto;
-use crate::reactions::{push_expr, push_react};
+use crate::reactions::push_react;
 use ipdl_base::NoMemory;
 use ipdl_sig::Sig;
 use ipdl_term::{Ctx, Expr, Proto, React};
@@ -19,10 +22,10 @@ use std::alloc::Global;
 pub fn show_expr(alloc: Global, sig: &Sig, depth: u32, term: &Expr) -> Result<Vec<u8>, NoMemory>
     requires { IsExpressionWithin (length sig.now) depth (expression_of term.now) }
     ensures { IfOk result
-        (λ text. text.items ≡ tree_text (expression_tree sig.now depth (expression_of term.now))) }
+        (λ text. WritesTree [] text.items (expression_tree sig.now depth (expression_of term.now))) }
 {
     let mut text = Vec::new(alloc);
-    push_expr(alloc, &mut text, sig, u64::from(depth), term)?;
+    push_expr(&mut text, sig, u64::from(depth), term)?;
     Ok(text)
 }
 
@@ -31,10 +34,10 @@ pub fn show_expr(alloc: Global, sig: &Sig, depth: u32, term: &Expr) -> Result<Ve
 pub fn show_react(alloc: Global, sig: &Sig, depth: u32, term: &React) -> Result<Vec<u8>, NoMemory>
     requires { IsReactionWithin (length sig.now) depth (reaction_of term.now) }
     ensures { IfOk result
-        (λ text. text.items ≡ tree_text (reaction_tree sig.now depth (reaction_of term.now))) }
+        (λ text. WritesTree [] text.items (reaction_tree sig.now depth (reaction_of term.now))) }
 {
     let mut text = Vec::new(alloc);
-    push_react(alloc, &mut text, sig, u64::from(depth), term)?;
+    push_react(&mut text, sig, u64::from(depth), term)?;
     Ok(text)
 }
 
@@ -44,10 +47,10 @@ pub fn show_react(alloc: Global, sig: &Sig, depth: u32, term: &React) -> Result<
 pub fn show_proto(alloc: Global, sig: &Sig, proto: &Proto) -> Result<Vec<u8>, NoMemory>
     requires { IsProtocolWithin (length sig.now) (protocol_of proto.now) }
     ensures { IfOk result
-        (λ text. text.items ≡ tree_text (protocol_tree sig.now (protocol_of proto.now))) }
+        (λ text. WritesTree [] text.items (protocol_tree sig.now (protocol_of proto.now))) }
 {
     let mut text = Vec::new(alloc);
-    push_proto(alloc, &mut text, sig, proto)?;
+    push_proto(&mut text, sig, proto)?;
     Ok(text)
 }
 
@@ -55,9 +58,9 @@ pub fn show_proto(alloc: Global, sig: &Sig, proto: &Proto) -> Result<Vec<u8>, No
 pub fn show_ctx(alloc: Global, sig: &Sig, ctx: &Ctx) -> Result<Vec<u8>, NoMemory>
     requires { IsContextWithin (length sig.now) (context_of ctx.now) }
     ensures { IfOk result
-        (λ text. text.items ≡ tree_text (context_tree sig.now (context_of ctx.now))) }
+        (λ text. WritesTree [] text.items (context_tree sig.now (context_of ctx.now))) }
 {
     let mut text = Vec::new(alloc);
-    push_ctx(alloc, &mut text, sig, ctx)?;
+    push_ctx(&mut text, sig, ctx)?;
     Ok(text)
 }

@@ -1,153 +1,61 @@
-ghost use Rattle.std.specs.Prelude.{◌≡◌, ◌++◌, length, codes, OnOk};
-ghost use Rattle.std.specs.Fmt.{decimal};
-ghost use Rattle.ipdl_tree.specs.Spelling.{tree_text};
-ghost use Rattle.ipdl_term.specs.Views.{expression_of, reaction_of};
-ghost use Rattle.ipdl_printing.specs.Printing.{binder_name, expression_tree, reaction_tree};
-ghost use Rattle.ipdl_printing.specs.Within.{IsExpressionWithin, IsReactionWithin};
+//! Pushes the texts of reactions, and counts the binders around.
 
-use crate::tokens::{push_binder, push_name, push_symbol};
+ghost use Rattle.std.specs.Prelude.{◌≡◌, [], ◌∷◌, length, OnOk};
+ghost use Rattle.ipdl_printing.specs.Printing.{binder_name, reaction_tree};
+ghost use Rattle.ipdl_printing.specs.Writes.{WritesTree, WritesMore};
+ghost use Rattle.ipdl_term.specs.Views.{reaction_of};
+ghost use Rattle.ipdl_term.specs.Within.{IsReactionWithin};
+ghost use Rattle.ipdl_tree.specs.Trees.{word, number};
+
+use crate::expressions::push_expr_part;
+use crate::tokens::{push_binder, push_name_part, push_number_part};
 use ipdl_base::NoMemory;
 use ipdl_sig::Sig;
-use ipdl_term::{Expr, React};
-use ipdl_tree::{push_literal, push_number};
-use std::alloc::Global;
+use ipdl_term::React;
 
-// The expression under so many binders.
-pub(crate) fn push_expr(
-    alloc: Global,
-    text: &mut Vec<u8>,
-    sig: &Sig,
-    depth: u64,
-    term: &Expr,
-) -> Result<(), NoMemory>
-    requires { IsExpressionWithin (length sig.now) depth (expression_of term.now) }
+// The binder at a depth as further parts of a list: its name and its width.
+fn push_binder_parts(text: &mut Vec<u8>, depth: u64, width: u8) -> Result<(), NoMemory>
     ensures { OnOk result
-        (text.new.items ≡ text.old.items ++ tree_text (expression_tree sig.now depth (expression_of term.now))) }
+        (WritesMore text.old.items text.new.items (word 0 (binder_name depth) ∷ number 0 width ∷ [])) }
 {
-    match term {
-        Expr::Lit(bits) => push_literal(text, *bits),
-        Expr::Var(n) => push_binder(alloc, text, depth - 1 - u64::from(*n)),
-        Expr::Outer(n) => push_binder(alloc, text, u64::from(*n)),
-        Expr::Apply(f, e) => {
-            text.push(b'(')?;
-            push_symbol(text, sig, *f)?;
-            text.push(b' ')?;
-            push_expr(alloc, text, sig, depth, e)?;
-            text.push(b')')?;
-            Ok(())
-        }
-        Expr::Xor(a, b) => {
-            text.extend_from_slice(b"(xor ")?;
-            push_expr(alloc, text, sig, depth, a)?;
-            text.push(b' ')?;
-            push_expr(alloc, text, sig, depth, b)?;
-            text.push(b')')?;
-            Ok(())
-        }
-        Expr::And(a, b) => {
-            text.extend_from_slice(b"(and ")?;
-            push_expr(alloc, text, sig, depth, a)?;
-            text.push(b' ')?;
-            push_expr(alloc, text, sig, depth, b)?;
-            text.push(b')')?;
-            Ok(())
-        }
-        Expr::Not(a) => {
-            text.extend_from_slice(b"(not ")?;
-            push_expr(alloc, text, sig, depth, a)?;
-            text.push(b')')?;
-            Ok(())
-        }
-        Expr::Cat(a, b) => {
-            text.extend_from_slice(b"(cat ")?;
-            push_expr(alloc, text, sig, depth, a)?;
-            text.push(b' ')?;
-            push_expr(alloc, text, sig, depth, b)?;
-            text.push(b')')?;
-            Ok(())
-        }
-        Expr::Cut(i, n, a) => {
-            text.extend_from_slice(b"(cut ")?;
-            push_number(alloc, text, u64::from(*i))?;
-            text.push(b' ')?;
-            push_number(alloc, text, u64::from(*n))?;
-            text.push(b' ')?;
-            push_expr(alloc, text, sig, depth, a)?;
-            text.push(b')')?;
-            Ok(())
-        }
-        Expr::Same(a, b) => {
-            text.extend_from_slice(b"(eq ")?;
-            push_expr(alloc, text, sig, depth, a)?;
-            text.push(b' ')?;
-            push_expr(alloc, text, sig, depth, b)?;
-            text.push(b')')?;
-            Ok(())
-        }
-        Expr::Mux(c, a, b) => {
-            text.extend_from_slice(b"(mux ")?;
-            push_expr(alloc, text, sig, depth, c)?;
-            text.push(b' ')?;
-            push_expr(alloc, text, sig, depth, a)?;
-            text.push(b' ')?;
-            push_expr(alloc, text, sig, depth, b)?;
-            text.push(b')')?;
-            Ok(())
-        }
-    }
+    text.push(b' ')?;
+    push_binder(text, depth)?;
+    push_number_part(text, u32::from(width))
 }
 
-// The head of a `bind` under so many binders: its binder's name and its width.
-fn push_bound(alloc: Global, text: &mut Vec<u8>, depth: u64, width: u8) -> Result<(), NoMemory>
-    ensures { OnOk result
-        (text.new.items ≡ text.old.items ++ (codes "(bind " ++ (binder_name depth ++ (codes " " ++ (decimal width ++ codes " "))))) }
-{
-    text.extend_from_slice(b"(bind ")?;
-    push_binder(alloc, text, depth)?;
-    text.push(b' ')?;
-    push_number(alloc, text, u64::from(width))?;
-    text.push(b' ')?;
-    Ok(())
-}
-
-// The reaction under so many binders. Memory holds no reaction of 2^64 binders.
-pub(crate) fn push_react(
-    alloc: Global,
-    text: &mut Vec<u8>,
-    sig: &Sig,
-    depth: u64,
-    term: &React,
-) -> Result<(), NoMemory>
+/// Pushes the text of the reaction under so many binders, as `(bind x0 8 (read a) (ret x0))` under
+/// none. The binders of a `bind`'s first part are counted without its own. Memory holds no reaction
+/// of 2^64 binders.
+#[cycle(reaction)]
+pub fn push_react(text: &mut Vec<u8>, sig: &Sig, depth: u64, term: &React) -> Result<(), NoMemory>
     requires { IsReactionWithin (length sig.now) depth (reaction_of term.now) }
     ensures { OnOk result
-        (text.new.items ≡ text.old.items ++ tree_text (reaction_tree sig.now depth (reaction_of term.now))) }
+        (WritesTree text.old.items text.new.items (reaction_tree sig.now depth (reaction_of term.now))) }
 {
     match term {
         React::Ret(e) => {
-            text.extend_from_slice(b"(ret ")?;
-            push_expr(alloc, text, sig, depth, e)?;
+            text.extend_from_slice(b"(ret")?;
+            push_expr_part(text, sig, depth, e)?;
             text.push(b')')?;
             Ok(())
         }
         React::Flip(w) => {
-            text.extend_from_slice(b"(flip ")?;
-            push_number(alloc, text, u64::from(*w))?;
+            text.extend_from_slice(b"(flip")?;
+            push_number_part(text, u32::from(*w))?;
             text.push(b')')?;
             Ok(())
         }
         React::Read(c) => {
-            text.extend_from_slice(b"(read ")?;
-            push_name(text, c)?;
+            text.extend_from_slice(b"(read")?;
+            push_name_part(text, c)?;
             text.push(b')')?;
             Ok(())
         }
         React::Cond(e, r, s) => {
-            text.extend_from_slice(b"(if ")?;
-            push_expr(alloc, text, sig, depth, e)?;
-            text.push(b' ')?;
-            push_react(alloc, text, sig, depth, r)?;
-            text.push(b' ')?;
-            push_react(alloc, text, sig, depth, s)?;
+            text.extend_from_slice(b"(if")?;
+            push_expr_part(text, sig, depth, e)?;
+            push_react_part(text, sig, depth, r)?;
+            push_react_part(text, sig, depth, s)?;
             text.push(b')')?;
             Ok(())
         }
@@ -155,12 +63,28 @@ pub(crate) fn push_react(
             let Some(under) = depth.checked_add(1) else {
                 return Err(NoMemory);
             };
-            push_bound(alloc, text, depth, *w)?;
-            push_react(alloc, text, sig, depth, r)?;
-            text.push(b' ')?;
-            push_react(alloc, text, sig, under, s)?;
+            text.extend_from_slice(b"(bind")?;
+            push_binder_parts(text, depth, *w)?;
+            push_react_part(text, sig, depth, r)?;
+            push_react_part(text, sig, under, s)?;
             text.push(b')')?;
             Ok(())
         }
     }
+}
+
+// The reaction as a further part of a list.
+#[cycle(reaction)]
+pub(crate) fn push_react_part(
+    text: &mut Vec<u8>,
+    sig: &Sig,
+    depth: u64,
+    term: &React,
+) -> Result<(), NoMemory>
+    requires { IsReactionWithin (length sig.now) depth (reaction_of term.now) }
+    ensures { OnOk result
+        (WritesMore text.old.items text.new.items (reaction_tree sig.now depth (reaction_of term.now) ∷ [])) }
+{
+    text.push(b' ')?;
+    push_react(text, sig, depth, term)
 }

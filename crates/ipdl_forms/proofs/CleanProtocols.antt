@@ -4,7 +4,7 @@ use Rattle.std.specs.Prelude.{nat_le, Option, Some, None, codes}
 use Rattle.std.proofs.lemmas.Bool.{le-leb}
 use Rattle.ipdl_term.specs.Sizes.{reaction_nodes, protocol_nodes}
 use Rattle.ipdl_term.specs.Terms.{Protocol, nil, assignment, parallel, hiding}
-use Rattle.ipdl_tree.specs.Trees.{Placed, word, group, Forest, no_trees, tree}
+use Rattle.ipdl_tree.specs.Trees.{Located, word, group, Forest, no_trees, tree}
 use Rattle.ipdl_forms.specs.declared.fault.DocFault.{DocFault}
 use Rattle.ipdl_forms.specs.declared.fault.FormCause.TheVariants.{NotAForm}
 use Rattle.ipdl_forms.specs.Counts.{counted, IsWithinNodes, node_faults}
@@ -12,7 +12,7 @@ use Rattle.ipdl_forms.specs.Faults.{tested, form_fault, word_faults}
 use Rattle.ipdl_forms.specs.Lists.{tree_count, word_in, operand}
 use Rattle.ipdl_forms.specs.Protocols.{SpellsProtocol, protocol_count, protocols_count, protocol_faults, protocols_faults, hidden_faults}
 use Rattle.ipdl_forms.specs.Reactions.{SpellsReaction, reaction_faults}
-use Rattle.ipdl_forms.specs.Scopes.{Scope}
+use Rattle.ipdl_forms.specs.Scopes.{NameScope}
 use Rattle.ipdl_forms.specs.Widths.{SpellsPort, greatest_width, port_faults}
 use Rattle.ipdl_forms.proofs.Clean.{within_one, within_two, within_three, tested-clean, node_faults-clean, named_faults-clean, one_list, head_lists, three_lists}
 use Rattle.ipdl_forms.proofs.CleanReactions.{reaction_faults-clean}
@@ -23,7 +23,7 @@ use Rattle.ipdl_forms.proofs.ProtocolForms.{form_of_parallel, form_of_hiding, fo
 
 -- ---- ports
 
-pub port_faults-clean : (c : List ℕ) (w : ℕ) (t : Placed) → SpellsPort c w t → port_faults t ≡ []
+pub port_faults-clean : (c : List ℕ) (w : ℕ) (t : Located) → SpellsPort c w t → port_faults t ≡ []
 port_faults-clean c w t is =
     form_of_port c w (λ u. port_faults u ≡ []) (λ pos at from least. tested-clean (nat_le w greatest_width) _ (le-leb w greatest_width least)) t is
 
@@ -48,7 +48,7 @@ counted_under (Some n) k =
     ap Some same
 
 -- a list of three protocols or more, of which those beside the first one have no fault
-par_clean : (scope : Scope) (count : Option ℕ) (pos at : ℕ) (a b c : Placed) (ts : Forest) → IsWithinNodes (counted (suc (suc (suc (tree_count ts))) - 1) count) → protocol_faults scope (counted (suc (suc (suc (tree_count ts))) - 1) count) a ≡ [] → protocol_faults scope (counted (protocol_count a) (counted 1 count)) (group pos (tree (word pos (codes "par")) (tree b (tree c ts)))) ≡ [] → protocol_faults scope count (group pos (tree (word at (codes "par")) (tree a (tree b (tree c ts))))) ≡ []
+par_clean : (scope : NameScope) (count : Option ℕ) (pos at : ℕ) (a b c : Located) (ts : Forest) → IsWithinNodes (counted (suc (suc (suc (tree_count ts))) - 1) count) → protocol_faults scope (counted (suc (suc (suc (tree_count ts))) - 1) count) a ≡ [] → protocol_faults scope (counted (protocol_count a) (counted 1 count)) (group pos (tree (word pos (codes "par")) (tree b (tree c ts)))) ≡ [] → protocol_faults scope count (group pos (tree (word at (codes "par")) (tree a (tree b (tree c ts))))) ≡ []
 par_clean scope count pos at a b c ts fits first beside =
     let k = tree_count ts in
     let here = counted (suc (suc (suc (tree_count ts))) - 1) count in
@@ -57,7 +57,7 @@ par_clean scope count pos at a b c ts fits first beside =
     head_lists (tested (nat_le 2 (suc (suc (suc (tree_count ts))))) (form_fault NotAForm pos)) (node_faults here pos) (protocol_faults scope here a ++ protocols_faults scope (counted (protocol_count a) here) (tree b (tree c ts))) (tested-clean (nat_le 2 (suc (suc (suc (tree_count ts))))) (form_fault NotAForm pos) (le-leb 2 (suc (suc (suc (tree_count ts)))) (omega arith))) (node_faults-clean here pos fits) (clean-append (protocol_faults scope here a) (protocols_faults scope (counted (protocol_count a) here) (tree b (tree c ts))) first (subst (λ total. protocols_faults scope total (tree b (tree c ts)) ≡ []) (counted_beside count (tree_count ts) (protocol_count a)) parts.1))
 
 -- a list of two ports or more, of which those after the first one have no fault
-new_clean : (scope : Scope) (count : Option ℕ) (pos at from : ℕ) (d e : Placed) (ds : Forest) (y : Placed) → IsWithinNodes (counted (suc (suc (tree_count ds))) count) → port_faults d ≡ [] → protocol_faults scope (counted 1 count) (group pos (tree (word pos (codes "new")) (tree (group pos (tree e ds)) (tree y no_trees)))) ≡ [] → protocol_faults scope count (group pos (tree (word at (codes "new")) (tree (group from (tree d (tree e ds))) (tree y no_trees)))) ≡ []
+new_clean : (scope : NameScope) (count : Option ℕ) (pos at from : ℕ) (d e : Located) (ds : Forest) (y : Located) → IsWithinNodes (counted (suc (suc (tree_count ds))) count) → port_faults d ≡ [] → protocol_faults scope (counted 1 count) (group pos (tree (word pos (codes "new")) (tree (group pos (tree e ds)) (tree y no_trees)))) ≡ [] → protocol_faults scope count (group pos (tree (word at (codes "new")) (tree (group from (tree d (tree e ds))) (tree y no_trees)))) ≡ []
 new_clean scope count pos at from d e ds y fits port under =
     let here = counted (suc (suc (tree_count ds))) count in
     let there = counted (suc (tree_count ds)) (counted 1 count) in
@@ -67,7 +67,7 @@ new_clean scope count pos at from d e ds y fits port under =
 
 -- ---- protocols
 
-pub protocol_faults-clean : (scope : Scope) (p : Protocol) (count : Option ℕ) (t : Placed) → SpellsProtocol scope p t → IsWithinNodes (counted (protocol_nodes p) count) → protocol_faults scope count t ≡ []
+pub protocol_faults-clean : (scope : NameScope) (p : Protocol) (count : Option ℕ) (t : Located) → SpellsProtocol scope p t → IsWithinNodes (counted (protocol_nodes p) count) → protocol_faults scope count t ≡ []
 protocol_faults-clean scope nil count t is fits =
     form_of_none (codes "nil") (λ u. protocol_faults scope count u ≡ []) (λ pos at. one_list (node_faults (counted 1 count) pos) (node_faults-clean (counted 1 count) pos fits)) t is
 protocol_faults-clean scope (assignment c r) count t is fits =

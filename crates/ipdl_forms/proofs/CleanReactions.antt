@@ -3,19 +3,19 @@ use Rattle.std.proofs.Common.{◌≡◌, ℕ, ◌+◌, [], arith}
 use Rattle.std.specs.Prelude.{true, Option, Some, codes}
 use Rattle.ipdl_term.specs.Sizes.{expression_nodes, reaction_nodes}
 use Rattle.ipdl_term.specs.Terms.{Reaction, returning, flipping, reading, branching, binding}
-use Rattle.ipdl_tree.specs.Trees.{Placed}
+use Rattle.ipdl_tree.specs.Trees.{Located}
 use Rattle.ipdl_forms.specs.Counts.{counted, IsWithinNodes, node_faults}
 use Rattle.ipdl_forms.specs.Expressions.{SpellsExpression, expression_count, expression_faults}
 use Rattle.ipdl_forms.specs.Faults.{word_faults}
 use Rattle.ipdl_forms.specs.Lists.{name_in, is_word, word_in, operand}
 use Rattle.ipdl_forms.specs.Reactions.{SpellsReaction, reaction_count, reaction_faults}
-use Rattle.ipdl_forms.specs.Scopes.{Scope, under_binder}
+use Rattle.ipdl_forms.specs.Scopes.{NameScope, under_binder}
 use Rattle.ipdl_forms.specs.Widths.{SpellsWidth, greatest_width, width_faults}
 use Rattle.ipdl_forms.proofs.Clean.{within_one, within_two, within_three, within_four, node_faults-clean, width_faults-clean, word_faults-clean, named_faults-clean, two_lists, four_lists, five_lists, expression_faults-clean}
 use Rattle.ipdl_forms.proofs.Forms.{form_of_one, form_of_three, form_of_four}
 use Rattle.ipdl_forms.proofs.NodeCounts.{expression_count-spelled, reaction_count-spelled}
 
-pub reaction_faults-clean : (scope : Scope) (r : Reaction) (count : Option ℕ) (t : Placed) → SpellsReaction scope r t → IsWithinNodes (counted (reaction_nodes r) count) → reaction_faults scope count t ≡ []
+pub reaction_faults-clean : (scope : NameScope) (r : Reaction) (count : Option ℕ) (t : Located) → SpellsReaction scope r t → IsWithinNodes (counted (reaction_nodes r) count) → reaction_faults scope count t ≡ []
 reaction_faults-clean scope (returning e) count t is fits =
     form_of_one (codes "ret") (λ u. SpellsExpression scope e (operand 0 u) → reaction_faults scope count u ≡ []) (λ pos at a first. two_lists (node_faults (counted 1 count) pos) (expression_faults scope (counted 1 count) a) (node_faults-clean (counted 1 count) pos (within_one count 1 (expression_nodes e + 1) (omega arith) fits)) (expression_faults-clean scope e (counted 1 count) a first (within_two count 1 (expression_nodes e) (expression_nodes e + 1) (omega arith) fits))) t is.0 is.1
 reaction_faults-clean scope (flipping w) count t is fits =

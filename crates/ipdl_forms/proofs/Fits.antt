@@ -4,7 +4,7 @@ use Rattle.std.specs.Prelude.{◌≤◌, nat_le, Option, Some, None, codes, unwr
 use Rattle.std.proofs.lemmas.Bool.{le-leb, leb-true}
 use Rattle.ipdl_term.specs.Sizes.{most_nodes, expression_nodes, reaction_nodes, protocol_nodes}
 use Rattle.ipdl_term.specs.Terms.{Expression, literal, variable, outer, application, exclusive, conjunction, negation, concatenation, segment, equality, selection, Reaction, returning, flipping, reading, branching, binding, Protocol, nil, assignment, parallel, hiding}
-use Rattle.ipdl_tree.specs.Trees.{Placed, word, group, Forest, no_trees, tree}
+use Rattle.ipdl_tree.specs.Trees.{Located, word, group, Forest, no_trees, tree}
 use Rattle.ipdl_forms.specs.declared.fault.DocFault.{DocFault}
 use Rattle.ipdl_forms.specs.declared.fault.FormCause.TheVariants.{NotAForm}
 use Rattle.ipdl_forms.specs.Counts.{counted, IsWithinNodes, node_faults}
@@ -14,7 +14,7 @@ use Rattle.ipdl_forms.specs.Lists.{tree_count, name_in, operand, IsForm}
 use Rattle.ipdl_forms.specs.Operators.{expression_operand}
 use Rattle.ipdl_forms.specs.Protocols.{SpellsProtocol, protocol_count, protocol_faults, protocols_faults, hidden_faults}
 use Rattle.ipdl_forms.specs.Reactions.{SpellsReaction, reaction_count, reaction_faults}
-use Rattle.ipdl_forms.specs.Scopes.{Scope, under_binder}
+use Rattle.ipdl_forms.specs.Scopes.{NameScope, under_binder}
 use Rattle.ipdl_forms.specs.Widths.{greatest_width, width_faults, port_faults}
 use Rattle.ipdl_base.specs.declared.limit.Limit.TheVariants.{Nodes}
 use Rattle.ipdl_forms.proofs.Clean.{tested-clean, node_faults-clean, head_lists, symbol_known}
@@ -71,36 +71,36 @@ last_of_five f g h i j clean =
 -- ---- expressions
 
 -- the one expression of a list has no fault
-one_rest : (scope : Scope) (count : Option ℕ) (pos at : ℕ) (name : List ℕ) (a : Placed) → operands_after scope name ≡ Some (expression_operand ∷ []) → expression_faults scope count (group pos (tree (word at name) (tree a no_trees))) ≡ [] → expression_faults scope (counted 1 count) a ≡ []
+one_rest : (scope : NameScope) (count : Option ℕ) (pos at : ℕ) (name : List ℕ) (a : Located) → operands_after scope name ≡ Some (expression_operand ∷ []) → expression_faults scope count (group pos (tree (word at name) (tree a no_trees))) ≡ [] → expression_faults scope (counted 1 count) a ≡ []
 one_rest scope count pos at name a known clean =
     let parts = append-clean (head_faults scope pos at name 1 ++ node_faults (counted 1 count) pos) (operand_faults scope (counted 1 count) (operands_wanted scope name) (tree a no_trees)) clean in
     let rest = append-clean (expression_faults scope (counted 1 count) a) [] (subst (λ wanted. operand_faults scope (counted 1 count) (unwrap_or wanted []) (tree a no_trees) ≡ []) known parts.1) in
     rest.0
 
 -- nor has the second of two
-two_rest : (scope : Scope) (count : Option ℕ) (pos at : ℕ) (name : List ℕ) (a b : Placed) → operands_after scope name ≡ Some (expression_operand ∷ expression_operand ∷ []) → expression_faults scope count (group pos (tree (word at name) (tree a (tree b no_trees)))) ≡ [] → expression_faults scope (counted (expression_count a) (counted 1 count)) b ≡ []
+two_rest : (scope : NameScope) (count : Option ℕ) (pos at : ℕ) (name : List ℕ) (a b : Located) → operands_after scope name ≡ Some (expression_operand ∷ expression_operand ∷ []) → expression_faults scope count (group pos (tree (word at name) (tree a (tree b no_trees)))) ≡ [] → expression_faults scope (counted (expression_count a) (counted 1 count)) b ≡ []
 two_rest scope count pos at name a b known clean =
     let parts = append-clean (head_faults scope pos at name 2 ++ node_faults (counted 1 count) pos) (operand_faults scope (counted 1 count) (operands_wanted scope name) (tree a (tree b no_trees))) clean in
     last_of_two (expression_faults scope (counted 1 count) a) (expression_faults scope (counted (expression_count a) (counted 1 count)) b) (subst (λ wanted. operand_faults scope (counted 1 count) (unwrap_or wanted []) (tree a (tree b no_trees)) ≡ []) known parts.1)
 
 -- trees without a fault have so many nodes that fit
-abbrev DoFit : Scope → (Placed → Type 0) → ℕ → Type 0
+abbrev DoFit : NameScope → (Located → Type 0) → ℕ → Type 0
 DoFit scope P n =
-    (count : Option ℕ) (t : Placed) → P t → expression_faults scope count t ≡ [] → IsWithinNodes (counted n count)
+    (count : Option ℕ) (t : Located) → P t → expression_faults scope count t ≡ [] → IsWithinNodes (counted n count)
 
 -- a list of one expression
-unary_fits : (scope : Scope) (head : List ℕ) (m : ℕ) (P : Placed → Type 0) → operands_after scope head ≡ Some (expression_operand ∷ []) → DoFit scope P m → (count : Option ℕ) (t : Placed) → IsForm head 1 t → P (operand 0 t) → expression_faults scope count t ≡ [] → IsWithinNodes (counted (m + 1) count)
+unary_fits : (scope : NameScope) (head : List ℕ) (m : ℕ) (P : Located → Type 0) → operands_after scope head ≡ Some (expression_operand ∷ []) → DoFit scope P m → (count : Option ℕ) (t : Located) → IsForm head 1 t → P (operand 0 t) → expression_faults scope count t ≡ [] → IsWithinNodes (counted (m + 1) count)
 unary_fits scope head m P known fit count t form =
     form_of_one head (λ u. P (operand 0 u) → expression_faults scope count u ≡ [] → IsWithinNodes (counted (m + 1) count)) (λ pos at a here clean. joined_two count 1 m (m + 1) (omega arith) (fit (counted 1 count) a here (one_rest scope count pos at head a known clean))) t form
 
 -- a list of two expressions
-binary_fits : (scope : Scope) (head : List ℕ) (m n : ℕ) (P Q : Placed → Type 0) → operands_after scope head ≡ Some (expression_operand ∷ expression_operand ∷ []) → DoFit scope Q n → ((x : Placed) → P x → expression_count x ≡ m) → (count : Option ℕ) (t : Placed) → IsForm head 2 t → P (operand 0 t) → Q (operand 1 t) → expression_faults scope count t ≡ [] → IsWithinNodes (counted (m + n + 1) count)
+binary_fits : (scope : NameScope) (head : List ℕ) (m n : ℕ) (P Q : Located → Type 0) → operands_after scope head ≡ Some (expression_operand ∷ expression_operand ∷ []) → DoFit scope Q n → ((x : Located) → P x → expression_count x ≡ m) → (count : Option ℕ) (t : Located) → IsForm head 2 t → P (operand 0 t) → Q (operand 1 t) → expression_faults scope count t ≡ [] → IsWithinNodes (counted (m + n + 1) count)
 binary_fits scope head m n P Q known fit many count t form =
     form_of_two head (λ u. P (operand 0 u) → Q (operand 1 u) → expression_faults scope count u ≡ [] → IsWithinNodes (counted (m + n + 1) count)) (λ pos at a b here there clean.
     let is : expression_count a ≡ m = many a here in
     joined_three count 1 (expression_count a) n (m + n + 1) (omega (arith, is)) (fit (counted (expression_count a) (counted 1 count)) b there (two_rest scope count pos at head a b known clean))) t form
 
-pub expression_nodes-fit : (scope : Scope) (e : Expression) (count : Option ℕ) (t : Placed) → SpellsExpression scope e t → expression_faults scope count t ≡ [] → IsWithinNodes (counted (expression_nodes e) count)
+pub expression_nodes-fit : (scope : NameScope) (e : Expression) (count : Option ℕ) (t : Located) → SpellsExpression scope e t → expression_faults scope count t ≡ [] → IsWithinNodes (counted (expression_nodes e) count)
 expression_nodes-fit scope (literal bits) count t is clean =
     form_of_literal bits (λ u. expression_faults scope count u ≡ [] → IsWithinNodes (counted 1 count)) (λ pos. node_faults-fit (counted 1 count) pos) t is clean
 expression_nodes-fit scope (variable n) count t is clean =
@@ -129,7 +129,7 @@ expression_nodes-fit scope (selection c a b) count t is clean =
 
 -- ---- reactions
 
-pub reaction_nodes-fit : (scope : Scope) (r : Reaction) (count : Option ℕ) (t : Placed) → SpellsReaction scope r t → reaction_faults scope count t ≡ [] → IsWithinNodes (counted (reaction_nodes r) count)
+pub reaction_nodes-fit : (scope : NameScope) (r : Reaction) (count : Option ℕ) (t : Located) → SpellsReaction scope r t → reaction_faults scope count t ≡ [] → IsWithinNodes (counted (reaction_nodes r) count)
 reaction_nodes-fit scope (returning e) count t is clean =
     form_of_one (codes "ret") (λ u. SpellsExpression scope e (operand 0 u) → reaction_faults scope count u ≡ [] → IsWithinNodes (counted (expression_nodes e + 1) count)) (λ pos at a first here. joined_two count 1 (expression_nodes e) (expression_nodes e + 1) (omega arith) (expression_nodes-fit scope e (counted 1 count) a first (last_of_two (node_faults (counted 1 count) pos) (expression_faults scope (counted 1 count) a) here))) t is.0 is.1 clean
 reaction_nodes-fit scope (flipping w) count t is clean =
@@ -149,7 +149,7 @@ reaction_nodes-fit scope (binding w r s) count t is clean =
 -- ---- protocols
 
 -- the first of three protocols or more has no fault, nor has what stands beside it, where the first one's nodes fit
-par_rest : (scope : Scope) (count : Option ℕ) (pos at : ℕ) (a b c : Placed) (ts : Forest) → protocol_faults scope count (group pos (tree (word at (codes "par")) (tree a (tree b (tree c ts))))) ≡ [] → (protocol_faults scope (counted (suc (suc (suc (tree_count ts))) - 1) count) a ≡ []) × (IsWithinNodes (counted (protocol_count a) (counted (suc (suc (suc (tree_count ts))) - 1) count)) → protocol_faults scope (counted (protocol_count a) (counted 1 count)) (group pos (tree (word pos (codes "par")) (tree b (tree c ts)))) ≡ [])
+par_rest : (scope : NameScope) (count : Option ℕ) (pos at : ℕ) (a b c : Located) (ts : Forest) → protocol_faults scope count (group pos (tree (word at (codes "par")) (tree a (tree b (tree c ts))))) ≡ [] → (protocol_faults scope (counted (suc (suc (suc (tree_count ts))) - 1) count) a ≡ []) × (IsWithinNodes (counted (protocol_count a) (counted (suc (suc (suc (tree_count ts))) - 1) count)) → protocol_faults scope (counted (protocol_count a) (counted 1 count)) (group pos (tree (word pos (codes "par")) (tree b (tree c ts)))) ≡ [])
 par_rest scope count pos at a b c ts clean =
     let here = counted (suc (suc (suc (tree_count ts))) - 1) count in
     let there = counted (suc (suc (tree_count ts)) - 1) (counted (protocol_count a) (counted 1 count)) in
@@ -160,7 +160,7 @@ par_rest scope count pos at a b c ts clean =
     )
 
 -- what stands under the first of two ports or more has no fault
-new_rest : (scope : Scope) (count : Option ℕ) (pos at from : ℕ) (d e : Placed) (ds : Forest) (y : Placed) → protocol_faults scope count (group pos (tree (word at (codes "new")) (tree (group from (tree d (tree e ds))) (tree y no_trees)))) ≡ [] → protocol_faults scope (counted 1 count) (group pos (tree (word pos (codes "new")) (tree (group pos (tree e ds)) (tree y no_trees)))) ≡ []
+new_rest : (scope : NameScope) (count : Option ℕ) (pos at from : ℕ) (d e : Located) (ds : Forest) (y : Located) → protocol_faults scope count (group pos (tree (word at (codes "new")) (tree (group from (tree d (tree e ds))) (tree y no_trees)))) ≡ [] → protocol_faults scope (counted 1 count) (group pos (tree (word pos (codes "new")) (tree (group pos (tree e ds)) (tree y no_trees)))) ≡ []
 new_rest scope count pos at from d e ds y clean =
     let here = counted (suc (suc (tree_count ds))) count in
     let there = counted (suc (tree_count ds)) (counted 1 count) in
@@ -169,7 +169,7 @@ new_rest scope count pos at from d e ds y clean =
     let ports = append-clean (port_faults d) (hidden_faults (tree e ds)) rest.0 in
     part_lists (node_faults there pos) (hidden_faults (tree e ds)) (protocol_faults scope there y) (subst (λ total. node_faults total pos ≡ []) (sym (counted_under count (tree_count ds))) parts.0) ports.1 (subst (λ total. protocol_faults scope total y ≡ []) (sym (counted_under count (tree_count ds))) rest.1)
 
-pub protocol_nodes-fit : (scope : Scope) (p : Protocol) (count : Option ℕ) (t : Placed) → SpellsProtocol scope p t → protocol_faults scope count t ≡ [] → IsWithinNodes (counted (protocol_nodes p) count)
+pub protocol_nodes-fit : (scope : NameScope) (p : Protocol) (count : Option ℕ) (t : Located) → SpellsProtocol scope p t → protocol_faults scope count t ≡ [] → IsWithinNodes (counted (protocol_nodes p) count)
 protocol_nodes-fit scope nil count t is clean =
     form_of_none (codes "nil") (λ u. protocol_faults scope count u ≡ [] → IsWithinNodes (counted 1 count)) (λ pos at here. let parts = append-clean (node_faults (counted 1 count) pos) [] here in node_faults-fit (counted 1 count) pos parts.0) t is clean
 protocol_nodes-fit scope (assignment c r) count t is clean =

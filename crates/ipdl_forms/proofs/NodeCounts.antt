@@ -3,12 +3,12 @@ use Rattle.std.proofs.Common.{◌≡◌, ℕ, suc, ◌+◌, ◌-◌, List, refl,
 use Rattle.std.specs.Prelude.{codes}
 use Rattle.ipdl_term.specs.Sizes.{expression_nodes, reaction_nodes, protocol_nodes}
 use Rattle.ipdl_term.specs.Terms.{Expression, literal, variable, outer, application, exclusive, conjunction, negation, concatenation, segment, equality, selection, Reaction, returning, flipping, reading, branching, binding, Protocol, nil, assignment, parallel, hiding}
-use Rattle.ipdl_tree.specs.Trees.{Placed, word, group, no_trees, tree}
+use Rattle.ipdl_tree.specs.Trees.{Located, word, group, no_trees, tree}
 use Rattle.ipdl_forms.specs.Expressions.{SpellsExpression, expression_count}
 use Rattle.ipdl_forms.specs.Lists.{tree_count, name_in, operand, IsForm}
 use Rattle.ipdl_forms.specs.Reactions.{SpellsReaction, reaction_count}
 use Rattle.ipdl_forms.specs.Protocols.{SpellsProtocol, protocol_count, protocols_count}
-use Rattle.ipdl_forms.specs.Scopes.{Scope, under_binder}
+use Rattle.ipdl_forms.specs.Scopes.{NameScope, under_binder}
 use Rattle.ipdl_forms.specs.Widths.{SpellsWidth}
 use Rattle.ipdl_forms.proofs.Forms.{form_of_none, form_of_one, form_of_two, form_of_three, form_of_four, form_of_symbol, form_of_literal, form_of_bound, form_of_free, form_of_width}
 use Rattle.ipdl_forms.proofs.ProtocolForms.{form_of_parallel, form_of_hiding}
@@ -43,15 +43,15 @@ new_more k a m under = omega arith
 -- ---- expressions
 
 -- no nodes are counted in a number
-width_count : (w : ℕ) (t : Placed) → SpellsWidth w t → expression_count t ≡ 0
+width_count : (w : ℕ) (t : Located) → SpellsWidth w t → expression_count t ≡ 0
 width_count w t is = form_of_width w (λ u. expression_count u ≡ 0) (λ pos least. refl) t is
 
 -- a list of two expressions
-two_count : (head : List ℕ) (m n : ℕ) (P Q : Placed → Type 0) → ((x : Placed) → P x → expression_count x ≡ m) → ((y : Placed) → Q y → expression_count y ≡ n) → (t : Placed) → IsForm head 2 t → P (operand 0 t) → Q (operand 1 t) → expression_count t ≡ m + n + 1
+two_count : (head : List ℕ) (m n : ℕ) (P Q : Located → Type 0) → ((x : Located) → P x → expression_count x ≡ m) → ((y : Located) → Q y → expression_count y ≡ n) → (t : Located) → IsForm head 2 t → P (operand 0 t) → Q (operand 1 t) → expression_count t ≡ m + n + 1
 two_count head m n P Q first second t form =
     form_of_two head (λ u. P (operand 0 u) → Q (operand 1 u) → expression_count u ≡ m + n + 1) (λ pos at a b left right. two_more (expression_count a) (expression_count b) m n (first a left) (second b right)) t form
 
-pub expression_count-spelled : (scope : Scope) (e : Expression) (t : Placed) → SpellsExpression scope e t → expression_count t ≡ expression_nodes e
+pub expression_count-spelled : (scope : NameScope) (e : Expression) (t : Located) → SpellsExpression scope e t → expression_count t ≡ expression_nodes e
 expression_count-spelled scope (literal bits) t is =
     form_of_literal bits (λ u. expression_count u ≡ 1) (λ pos. refl) t is
 expression_count-spelled scope (variable n) t is =
@@ -77,7 +77,7 @@ expression_count-spelled scope (selection c a b) t is =
 
 -- ---- reactions
 
-pub reaction_count-spelled : (scope : Scope) (r : Reaction) (t : Placed) → SpellsReaction scope r t → reaction_count t ≡ reaction_nodes r
+pub reaction_count-spelled : (scope : NameScope) (r : Reaction) (t : Located) → SpellsReaction scope r t → reaction_count t ≡ reaction_nodes r
 reaction_count-spelled scope (returning e) t is =
     form_of_one (codes "ret") (λ u. SpellsExpression scope e (operand 0 u) → reaction_count u ≡ expression_nodes e + 1) (λ pos at a first. one_more (expression_count a) (expression_nodes e) (expression_count-spelled scope e a first)) t is.0 is.1
 reaction_count-spelled scope (flipping w) t is =
@@ -91,7 +91,7 @@ reaction_count-spelled scope (binding w r s) t is =
 
 -- ---- protocols
 
-pub protocol_count-spelled : (scope : Scope) (p : Protocol) (t : Placed) → SpellsProtocol scope p t → protocol_count t ≡ protocol_nodes p
+pub protocol_count-spelled : (scope : NameScope) (p : Protocol) (t : Located) → SpellsProtocol scope p t → protocol_count t ≡ protocol_nodes p
 protocol_count-spelled scope nil t is =
     form_of_none (codes "nil") (λ u. protocol_count u ≡ 1) (λ pos at. refl) t is
 protocol_count-spelled scope (assignment c r) t is =

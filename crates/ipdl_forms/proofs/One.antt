@@ -2,24 +2,24 @@
 use Rattle.std.proofs.Common.{◌≡◌, ℕ, zero, suc, Bool, true, false, List, [], refl, sym, ap, ap₂, ◌∙◌}
 use Rattle.std.specs.Prelude.{◌&&◌, Option, Some, None, is_none, unwrap_or, codes, bytes_eq, if◌then◌else◌}
 use Rattle.ipdl_term.specs.Terms.{Expression, literal, variable, outer, application, exclusive, conjunction, negation, concatenation, segment, equality, selection, Reaction, returning, flipping, reading, branching, binding, Protocol, nil, assignment, parallel, hiding}
-use Rattle.ipdl_tree.specs.Trees.{Placed, word, number, group, Forest, no_trees, tree}
+use Rattle.ipdl_tree.specs.Trees.{Located, word, number, group, Forest, no_trees, tree}
 use Rattle.ipdl_tree.specs.Trees as Trees
 use Rattle.ipdl_forms.specs.Expressions.{SpellsExpression}
 use Rattle.ipdl_forms.specs.Lists.{tree_at, parts_of, name_in, value_in, word_in, operand}
 use Rattle.ipdl_forms.specs.Operators.{operator_operands}
 use Rattle.ipdl_forms.specs.Protocols.{SpellsProtocol, Shape, nil_shape, out_shape, par_shape, new_shape, shape_named}
 use Rattle.ipdl_forms.specs.Reactions.{SpellsReaction}
-use Rattle.ipdl_forms.specs.Scopes.{Scope, under_binder, symbol_number, bound_number, free_number, outer_number}
+use Rattle.ipdl_forms.specs.Scopes.{NameScope, under_binder, symbol_number, bound_number, free_number, outer_number}
 use Rattle.ipdl_forms.specs.Widths.{SpellsWidth, SpellsPort}
 use Rattle.ipdl_forms.proofs.Forms.{form_of_none, form_of_one, form_of_two, form_of_three, form_of_four, form_of_symbol, form_of_literal, form_of_bound, form_of_free, form_of_width, form_of_word}
 use Rattle.ipdl_forms.proofs.ProtocolForms.{form_of_parallel, form_of_hiding, form_of_port}
 
 -- ---- numbers and words
 
-value_in-spelled : (w : ℕ) (t : Placed) → SpellsWidth w t → value_in t ≡ w
+pub value_in-spelled : (w : ℕ) (t : Located) → SpellsWidth w t → value_in t ≡ w
 value_in-spelled w t is = form_of_width w (λ u. value_in u ≡ w) (λ pos least. refl) t is
 
-name_in-spelled : (c : List ℕ) (t : Placed) → word_in t ≡ Some c → name_in t ≡ c
+pub name_in-spelled : (c : List ℕ) (t : Located) → word_in t ≡ Some c → name_in t ≡ c
 name_in-spelled c t is = form_of_word c (λ u. name_in u ≡ c) (λ pos. refl) t is
 
 -- ---- expressions
@@ -30,7 +30,7 @@ variable_read (Some n) free = variable n
 variable_read None free = outer (unwrap_or free 0)
 
 -- the expression of a head, whose parts are read
-abbrev list_read : Scope → List ℕ → Forest → (ℕ → Expression) → Expression
+abbrev list_read : NameScope → List ℕ → Forest → (ℕ → Expression) → Expression
 list_read scope name ts part =
     if is_none (operator_operands name) then application (unwrap_or (symbol_number scope name) 0) (part 0)
     else (if bytes_eq name (codes "xor") then exclusive (part 0) (part 1)
@@ -42,20 +42,20 @@ list_read scope name ts part =
     else selection (part 0) (part 1) (part 2)))))))
 
 abbrev mutual
-  expression_read : Scope → Placed → Expression
+  pub expression_read : NameScope → Located → Expression
   expression_read scope (word pos name) = variable_read (bound_number scope name) (free_number scope name)
   expression_read scope (number pos n) = literal []
   expression_read scope (Trees.literal pos bits) = literal bits
   expression_read scope (group pos no_trees) = literal []
   expression_read scope (group pos (tree t ts)) = list_read scope (name_in t) ts (expressions_read scope ts)
 
-  expressions_read : Scope → Forest → ℕ → Expression
+  expressions_read : NameScope → Forest → ℕ → Expression
   expressions_read scope no_trees n = literal []
   expressions_read scope (tree t ts) zero = expression_read scope t
   expressions_read scope (tree t ts) (suc n) = expressions_read scope ts n
 
 -- an outer variable is named by no binder
-free_unbound : (scope : Scope) (n : ℕ) (name : List ℕ) → free_number scope name ≡ Some n → bound_number scope name ≡ None
+free_unbound : (scope : NameScope) (n : ℕ) (name : List ℕ) → free_number scope name ≡ Some n → bound_number scope name ≡ None
 free_unbound scope n name is = go scope.in_step (bound_number scope name) (outer_number name) is
   where
     go : (b : Bool) (o f : Option ℕ) → (if b && is_none o then f else None) ≡ Some n → o ≡ None
@@ -69,11 +69,11 @@ variable_is n o f is = rw is refl
 outer_is : (n : ℕ) (o f : Option ℕ) → o ≡ None → f ≡ Some n → variable_read o f ≡ outer n
 outer_is n o f none is = rw (none, is) refl
 
-symbol_is : (scope : Scope) (f : ℕ) (name : List ℕ) (ts : Forest) (part : ℕ → Expression) → operator_operands name ≡ None → symbol_number scope name ≡ Some f → list_read scope name ts part ≡ application f (part 0)
+symbol_is : (scope : NameScope) (f : ℕ) (name : List ℕ) (ts : Forest) (part : ℕ → Expression) → operator_operands name ≡ None → symbol_number scope name ≡ Some f → list_read scope name ts part ≡ application f (part 0)
 symbol_is scope f name ts part no_operator symbol = rw (no_operator, symbol) refl
 
 -- what is spelled is read
-expression_read-spelled : (scope : Scope) (e : Expression) (t : Placed) → SpellsExpression scope e t → expression_read scope t ≡ e
+pub expression_read-spelled : (scope : NameScope) (e : Expression) (t : Located) → SpellsExpression scope e t → expression_read scope t ≡ e
 expression_read-spelled scope (literal bits) t is =
     form_of_literal bits (λ u. expression_read scope u ≡ literal bits) (λ pos. refl) t is
 expression_read-spelled scope (variable n) t is =
@@ -106,7 +106,7 @@ expression_read-spelled scope (selection c a b) t is =
     cc) t is.0 is.1 is.2 is.3
 
 -- one tree spells one expression
-pub one_expression : (scope : Scope) (e f : Expression) (t : Placed) → SpellsExpression scope e t → SpellsExpression scope f t → e ≡ f
+pub one_expression : (scope : NameScope) (e f : Expression) (t : Located) → SpellsExpression scope e t → SpellsExpression scope f t → e ≡ f
 one_expression scope e f t is also =
     sym (expression_read-spelled scope e t is) ∙ expression_read-spelled scope f t also
 
@@ -122,7 +122,7 @@ reaction_list_read name e ts part body =
     else binding (value_in (tree_at 1 ts)) (part 2) (body 3))))
 
 abbrev mutual
-  reaction_read : Scope → Placed → Reaction
+  reaction_read : NameScope → Located → Reaction
   reaction_read scope (word pos name) = flipping 0
   reaction_read scope (number pos n) = flipping 0
   reaction_read scope (Trees.literal pos bits) = flipping 0
@@ -130,13 +130,13 @@ abbrev mutual
   reaction_read scope (group pos (tree t ts)) =
       reaction_list_read (name_in t) (expression_read scope (tree_at 0 ts)) ts (reactions_read scope ts) (reactions_read (under_binder (name_in (tree_at 0 ts)) scope) ts)
 
-  reactions_read : Scope → Forest → ℕ → Reaction
+  reactions_read : NameScope → Forest → ℕ → Reaction
   reactions_read scope no_trees n = flipping 0
   reactions_read scope (tree t ts) zero = reaction_read scope t
   reactions_read scope (tree t ts) (suc n) = reactions_read scope ts n
 
 -- what is spelled is read
-reaction_read-spelled : (scope : Scope) (r : Reaction) (t : Placed) → SpellsReaction scope r t → reaction_read scope t ≡ r
+reaction_read-spelled : (scope : NameScope) (r : Reaction) (t : Located) → SpellsReaction scope r t → reaction_read scope t ≡ r
 reaction_read-spelled scope (returning e) t is =
     form_of_one (codes "ret") (λ u. SpellsExpression scope e (operand 0 u) → reaction_read scope u ≡ returning e) (λ pos at a first. ap returning (expression_read-spelled scope e a first)) t is.0 is.1
 reaction_read-spelled scope (flipping w) t is =
@@ -157,17 +157,17 @@ reaction_read-spelled scope (binding w r s) t is =
     cc) t is.0 is.2 is.3 is.4
 
 -- one tree spells one reaction
-pub one_reaction : (scope : Scope) (r s : Reaction) (t : Placed) → SpellsReaction scope r t → SpellsReaction scope s t → r ≡ s
+pub one_reaction : (scope : NameScope) (r s : Reaction) (t : Located) → SpellsReaction scope r t → SpellsReaction scope s t → r ≡ s
 one_reaction scope r s t is also =
     sym (reaction_read-spelled scope r t is) ∙ reaction_read-spelled scope s t also
 
 -- ---- protocols
 
 -- the channel and the width of a port
-abbrev port_name : Placed → List ℕ
+abbrev port_name : Located → List ℕ
 port_name t = name_in (tree_at 0 (parts_of t))
 
-abbrev port_width : Placed → ℕ
+abbrev port_width : Located → ℕ
 port_width t = value_in (tree_at 1 (parts_of t))
 
 -- a protocol under some ports
@@ -176,7 +176,7 @@ ports_read no_trees p = p
 ports_read (tree d ds) p = hiding (port_name d) (port_width d) (ports_read ds p)
 
 -- the protocol of a head, whose parts are read one by one and side by side
-abbrev protocol_list_read : Scope → Option Shape → Forest → Protocol → Protocol → Protocol
+abbrev protocol_list_read : NameScope → Option Shape → Forest → Protocol → Protocol → Protocol
 protocol_list_read scope None ts second beside = nil
 protocol_list_read scope (Some nil_shape) ts second beside = nil
 protocol_list_read scope (Some out_shape) ts second beside =
@@ -185,7 +185,7 @@ protocol_list_read scope (Some par_shape) ts second beside = beside
 protocol_list_read scope (Some new_shape) ts second beside = ports_read (parts_of (tree_at 0 ts)) second
 
 abbrev mutual
-  protocol_read : Scope → Placed → Protocol
+  protocol_read : NameScope → Located → Protocol
   protocol_read scope (word pos name) = nil
   protocol_read scope (number pos n) = nil
   protocol_read scope (Trees.literal pos bits) = nil
@@ -193,31 +193,31 @@ abbrev mutual
   protocol_read scope (group pos (tree t ts)) =
       protocol_list_read scope (shape_named (name_in t)) ts (protocol_at scope ts 1) (beside_read scope ts)
 
-  protocol_at : Scope → Forest → ℕ → Protocol
+  protocol_at : NameScope → Forest → ℕ → Protocol
   protocol_at scope no_trees n = nil
   protocol_at scope (tree t ts) zero = protocol_read scope t
   protocol_at scope (tree t ts) (suc n) = protocol_at scope ts n
 
-  beside_read : Scope → Forest → Protocol
+  beside_read : NameScope → Forest → Protocol
   beside_read scope no_trees = nil
   beside_read scope (tree t no_trees) = protocol_read scope t
   beside_read scope (tree t (tree u ts)) = parallel (protocol_read scope t) (beside_read scope (tree u ts))
 
-port_name-spelled : (c : List ℕ) (w : ℕ) (t : Placed) → SpellsPort c w t → port_name t ≡ c
+port_name-spelled : (c : List ℕ) (w : ℕ) (t : Located) → SpellsPort c w t → port_name t ≡ c
 port_name-spelled c w t is = form_of_port c w (λ u. port_name u ≡ c) (λ pos at from least. refl) t is
 
-port_width-spelled : (c : List ℕ) (w : ℕ) (t : Placed) → SpellsPort c w t → port_width t ≡ w
+port_width-spelled : (c : List ℕ) (w : ℕ) (t : Located) → SpellsPort c w t → port_width t ≡ w
 port_width-spelled c w t is = form_of_port c w (λ u. port_width u ≡ w) (λ pos at from least. refl) t is
 
 -- a protocol under a port
-hiding_is : (c : List ℕ) (w : ℕ) (d : Placed) (p q : Protocol) → SpellsPort c w d → q ≡ p → hiding (port_name d) (port_width d) q ≡ hiding c w p
+hiding_is : (c : List ℕ) (w : ℕ) (d : Located) (p q : Protocol) → SpellsPort c w d → q ≡ p → hiding (port_name d) (port_width d) q ≡ hiding c w p
 hiding_is c w d p q port same =
     let one : port_name d ≡ c = port_name-spelled c w d port in
     let two : port_width d ≡ w = port_width-spelled c w d port in
     rw (one, two, same) refl
 
 -- what is spelled is read
-protocol_read-spelled : (scope : Scope) (p : Protocol) (t : Placed) → SpellsProtocol scope p t → protocol_read scope t ≡ p
+protocol_read-spelled : (scope : NameScope) (p : Protocol) (t : Located) → SpellsProtocol scope p t → protocol_read scope t ≡ p
 protocol_read-spelled scope nil t is =
     form_of_none (codes "nil") (λ u. protocol_read scope u ≡ nil) (λ pos at. refl) t is
 protocol_read-spelled scope (assignment c r) t is =
@@ -228,6 +228,6 @@ protocol_read-spelled scope (hiding c w p) t is =
     form_of_hiding c w (λ u. protocol_read scope u ≡ hiding c w p) (SpellsProtocol scope p) (λ pos at from d y port under. hiding_is c w d p (protocol_read scope y) port (protocol_read-spelled scope p y under)) (λ pos at from d e ds y port under. hiding_is c w d p (ports_read (tree e ds) (protocol_read scope y)) port (protocol_read-spelled scope p (group pos (tree (word pos (codes "new")) (tree (group pos (tree e ds)) (tree y no_trees)))) under)) t is.0 is.1 is.2
 
 -- one tree spells one protocol
-pub one_protocol : (scope : Scope) (p q : Protocol) (t : Placed) → SpellsProtocol scope p t → SpellsProtocol scope q t → p ≡ q
+pub one_protocol : (scope : NameScope) (p q : Protocol) (t : Located) → SpellsProtocol scope p t → SpellsProtocol scope q t → p ≡ q
 one_protocol scope p q t is also =
     sym (protocol_read-spelled scope p t is) ∙ protocol_read-spelled scope q t also

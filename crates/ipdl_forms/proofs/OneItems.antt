@@ -4,9 +4,10 @@ use Rattle.std.specs.Prelude.{codes}
 use Rattle.ipdl_sig.specs.declared.symbol.Symbol.{Symbol}
 use Rattle.ipdl_term.specs.declared.interface.Interface.{Interface}
 use Rattle.ipdl_term.specs.declared.interface.Port.{Port}
-use Rattle.ipdl_tree.specs.Trees.{Placed, Forest, no_trees, tree}
+use Rattle.ipdl_tree.specs.Trees.{Located, Forest, no_trees, tree}
 use Rattle.ipdl_forms.specs.Documents.{Entry, symbol_entry, protocol_entry, assumption_entry, theorem_entry, Document, symbols_in}
-use Rattle.ipdl_forms.specs.Items.{nothing_earlier, earlier_with, body_scope, AreValues, SpellsSymbol, ArePorts, port_names, SpellsInterface, SpellsEntry, ItemForm, fun_form, table_form, protocol_form, assume_form, theorem_form, item_form, AreEntries, SpellsDocument}
+use Rattle.ipdl_term.specs.Typing.{port_names}
+use Rattle.ipdl_forms.specs.Items.{nothing_earlier, earlier_with, body_scope, AreValues, SpellsSymbol, ArePorts, SpellsInterface, SpellsEntry, ItemForm, fun_form, table_form, protocol_form, assume_form, theorem_form, item_form, AreEntries, SpellsDocument}
 use Rattle.ipdl_forms.specs.Lists.{parts_of, without_first, head_of, operands, operand}
 use Rattle.ipdl_forms.specs.Steps.{Earlier, first_name}
 use Rattle.ipdl_forms.proofs.OneSteps.{one_side}
@@ -26,7 +27,7 @@ one_values w (a ∷ vs) (b ∷ ws) (tree t ts) s u =
     let first : a ≡ b = cc (s.0, u.0) in let rest = one_values w vs ws ts s.2 u.2 in cc
 
 -- the values of a symbol: none where the head is `fun`
-one_table : (earlier : Earlier) (name other : List ℕ) (from to : ℕ) (values others : Option (List (List Bool))) (t : Placed) → SpellsSymbol earlier (record { name = name; from = from; to = to; values = values }) t → SpellsSymbol earlier (record { name = other; from = from; to = to; values = others }) t → values ≡ others
+one_table : (earlier : Earlier) (name other : List ℕ) (from to : ℕ) (values others : Option (List (List Bool))) (t : Located) → SpellsSymbol earlier (record { name = name; from = from; to = to; values = values }) t → SpellsSymbol earlier (record { name = other; from = from; to = to; values = others }) t → values ≡ others
 one_table earlier name other from to None None t s u = refl
 one_table earlier name other from to None (Some ws) t s u =
     absurd (heads_apart (codes "fun") (codes "table") (head_of t) s.3.0.0 u.3.0.0 refl)
@@ -35,7 +36,7 @@ one_table earlier name other from to (Some vs) None t s u =
 one_table earlier name other from to (Some vs) (Some ws) t s u =
     ap Some (one_values to vs ws (parts_of (operand 3 t)) s.3.2 u.3.2)
 
-one_symbol : (earlier : Earlier) (a b : Symbol) (t : Placed) → SpellsSymbol earlier a t → SpellsSymbol earlier b t → a ≡ b
+one_symbol : (earlier : Earlier) (a b : Symbol) (t : Located) → SpellsSymbol earlier a t → SpellsSymbol earlier b t → a ≡ b
 one_symbol earlier a b t s u =
     let names : a.name ≡ b.name = cc (s.0.0, u.0.0) in
     let froms : a.from ≡ b.from = cc (s.1, u.1) in
@@ -70,7 +71,7 @@ one_ports before (p ∷ ps) (q ∷ qs) (tree t ts) s u =
     let rest = one_ports (before ++ p.name ∷ []) ps qs ts s.2 (subst (λ x. ArePorts (before ++ x ∷ []) qs ts) (sym names) u.2) in
     ap₂ (λ (x : Port) (xs : List Port). x ∷ xs) (same_port p q names widths) rest
 
-one_interface : (a b : Interface) (inputs outputs : Placed) → SpellsInterface a inputs outputs → SpellsInterface b inputs outputs → a ≡ b
+one_interface : (a b : Interface) (inputs outputs : Located) → SpellsInterface a inputs outputs → SpellsInterface b inputs outputs → a ≡ b
 one_interface a b inputs outputs s u =
     let make : List Port → List Port → Interface = λ ins outs. record { inputs = ins; outputs = outs } in
     let ins = one_ports [] a.inputs b.inputs (operands inputs) s.1 u.1 in
@@ -94,12 +95,12 @@ sort_of_entry (protocol_entry name interface body) = protocol_form
 sort_of_entry (assumption_entry name left right) = assume_form
 sort_of_entry (theorem_entry name left right lefts rights) = theorem_form
 
-symbol_sort : (earlier : Earlier) (name : List ℕ) (from to : ℕ) (values : Option (List (List Bool))) (t : Placed) → SpellsSymbol earlier (record { name = name; from = from; to = to; values = values }) t → sort_of (item_form (first_name t)) ≡ Some fun_form
+symbol_sort : (earlier : Earlier) (name : List ℕ) (from to : ℕ) (values : Option (List (List Bool))) (t : Located) → SpellsSymbol earlier (record { name = name; from = from; to = to; values = values }) t → sort_of (item_form (first_name t)) ≡ Some fun_form
 unfolding sort_of
 symbol_sort earlier name from to None t s = rw (first_name_head t (codes "fun") s.3.0.0) refl
 symbol_sort earlier name from to (Some values) t s = rw (first_name_head t (codes "table") s.3.0.0) refl
 
-entry_sort : (earlier : Earlier) (e : Entry) (t : Placed) → SpellsEntry earlier e t → sort_of (item_form (first_name t)) ≡ Some (sort_of_entry e)
+entry_sort : (earlier : Earlier) (e : Entry) (t : Located) → SpellsEntry earlier e t → sort_of (item_form (first_name t)) ≡ Some (sort_of_entry e)
 unfolding sort_of sort_of_entry
 entry_sort earlier (symbol_entry n symbol) t s =
     symbol_sort earlier symbol.name symbol.from symbol.to symbol.values t s.1
@@ -108,7 +109,7 @@ entry_sort earlier (assumption_entry name left right) t s = rw (first_name_head 
 entry_sort earlier (theorem_entry name left right lefts rights) t s =
     rw (first_name_head t (codes "theorem") s.0.0) refl
 
-one_entry : (earlier : Earlier) (e f : Entry) (t : Placed) → sort_of_entry e ≡ sort_of_entry f → SpellsEntry earlier e t → SpellsEntry earlier f t → e ≡ f
+one_entry : (earlier : Earlier) (e f : Entry) (t : Located) → sort_of_entry e ≡ sort_of_entry f → SpellsEntry earlier e t → SpellsEntry earlier f t → e ≡ f
 unfolding sort_of_entry
 one_entry earlier (symbol_entry n a) (symbol_entry m b) t sort s u =
     let numbers : n ≡ m = s.0 ∙ sym u.0 in let symbols = one_symbol earlier a b t s.1 u.1 in rw (numbers, symbols) refl
@@ -132,7 +133,7 @@ one_entry earlier (theorem_entry name left right lefts rights) (theorem_entry na
 one_entry earlier e f t sort s u = cc
 
 -- a tree spells one item
-pub one_item : (earlier : Earlier) (e f : Entry) (t : Placed) → SpellsEntry earlier e t → SpellsEntry earlier f t → e ≡ f
+pub one_item : (earlier : Earlier) (e f : Entry) (t : Located) → SpellsEntry earlier e t → SpellsEntry earlier f t → e ≡ f
 one_item earlier e f t s u =
     let sorts : Some (sort_of_entry e) ≡ Some (sort_of_entry f) = sym (entry_sort earlier e t s) ∙ entry_sort earlier f t u in
     let sort : sort_of_entry e ≡ sort_of_entry f = cc sorts in one_entry earlier e f t sort s u
@@ -155,7 +156,7 @@ same_document : (v w : ℕ) (symbols others : List Symbol) (es fs : List Entry) 
 same_document v w symbols others es fs versions tables entries = rw (versions, tables, entries) refl
 
 -- a tree spells one document
-pub one_document : (d e : Document) (t : Placed) → SpellsDocument d t → SpellsDocument e t → d ≡ e
+pub one_document : (d e : Document) (t : Located) → SpellsDocument d t → SpellsDocument e t → d ≡ e
 one_document d e t s u =
     let entries = one_entries nothing_earlier d.entries e.entries (without_first (operands t)) s.3 u.3 in
     same_document d.version e.version d.symbols e.symbols d.entries e.entries (s.1 ∙ sym u.1) (s.4 ∙ ap symbols_in entries ∙ sym u.4) entries

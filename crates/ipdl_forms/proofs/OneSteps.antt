@@ -1,91 +1,48 @@
 -- A tree spells one step.
-use Rattle.std.proofs.Common.{◌≡◌, ℕ, List, [], ◌∷◌, ◌++◌, map, Option, Some, refl, sym, ap, ap₂, subst, ◌∙◌}
+use Rattle.std.proofs.Common.{◌≡◌, ℕ, List, [], ◌∷◌, ◌++◌, Option, Some, refl, sym, ap, ap₂, subst, ◌∙◌}
 use Rattle.std.specs.Prelude.{codes}
+use Rattle.ipdl_term.specs.Rules.{Rule, RuleKind, at_reactions, at_expressions, at_protocols, row_of, rule_word}
+use Rattle.ipdl_term.specs.Steps.{Direction, lr, rl, Step, plain, rev, invoke}
 use Rattle.ipdl_term.specs.Terms.{Term, protocol_term, reaction_term, expression_term}
-use Rattle.ipdl_term.specs.declared.step.Dir.{Dir}
-use Rattle.ipdl_term.specs.declared.step.Dir.TheVariants.{Lr, Rl}
-use Rattle.ipdl_tree.specs.Trees.{Placed, Forest, no_trees, tree}
-use Rattle.ipdl_forms.specs.Documents.{Argument, expression_argument, symbol_argument, number_argument, name_argument, path_argument, width_argument, Application, Move, forward, backward, invocation}
+use Rattle.ipdl_tree.specs.Trees.{Located, Forest, no_trees, tree}
 use Rattle.ipdl_forms.specs.Lists.{parts_of, without_first, word_in, head_of, operands, operand}
-use Rattle.ipdl_forms.specs.Scopes.{Scope}
-use Rattle.ipdl_forms.specs.Steps.{kind_of, Earlier, AreNumbers, SpellsPath, SpellsArgument, SpellsArguments, argument_kinds, SpellsApplication, SpellsTerm, dir_word, ArePairs, SpellsMove, step_scope, AreMoves, SpellsSide}
-use Rattle.ipdl_forms.proofs.StepForms.{application_kinds, not_rev, not_use, rules_apart}
-use Rattle.ipdl_forms.proofs.One.{one_expression, one_protocol, one_reaction}
+use Rattle.ipdl_forms.specs.Scopes.{NameScope}
+use Rattle.ipdl_forms.specs.Steps.{Earlier, SpellsPath, SpellsRule, SpellsTerm, direction_word, ArePairs, SpellsStep, step_scope, AreSteps, SpellsSide}
+use Rattle.ipdl_forms.proofs.RuleWords.{path_read-spelled, one_rule_of_word, not_rev, not_use}
+use Rattle.ipdl_forms.proofs.One.{one_protocol, one_reaction}
 use Rattle.ipdl_forms.proofs.TreeForms.{heads_apart}
 
--- ---- paths
+-- ---- rules and places
 
-one_numbers : (path other : List ℕ) (ts : Forest) → AreNumbers path ts → AreNumbers other ts → path ≡ other
-one_numbers [] [] ts s u = refl
-one_numbers [] (m ∷ ms) no_trees s u = absurd u
-one_numbers [] (m ∷ ms) (tree t ts) s u = absurd s
-one_numbers (n ∷ ns) [] no_trees s u = absurd s
-one_numbers (n ∷ ns) [] (tree t ts) s u = absurd u
-one_numbers (n ∷ ns) (m ∷ ms) no_trees s u = absurd s
-one_numbers (n ∷ ns) (m ∷ ms) (tree t ts) s u =
-    let first : n ≡ m = cc (s.0, u.0) in let rest = one_numbers ns ms ts s.1 u.1 in cc
+one_path : (path other : List ℕ) (t : Located) → SpellsPath path t → SpellsPath other t → path ≡ other
+one_path path other t s u = sym (path_read-spelled path t s) ∙ path_read-spelled other t u
 
-pub one_path : (path other : List ℕ) (t : Placed) → SpellsPath path t → SpellsPath other t → path ≡ other
-one_path path other t s u = one_numbers path other (parts_of t) s.1 u.1
-
--- ---- the arguments of a rule
-
-one_argument : (scope : Scope) (a b : Argument) (t : Placed) → kind_of a ≡ kind_of b → SpellsArgument scope a t → SpellsArgument scope b t → a ≡ b
-one_argument scope (expression_argument e) (expression_argument f) t same s u =
-    ap expression_argument (one_expression scope e f t s u)
-one_argument scope (symbol_argument f) (symbol_argument g) t same s u = cc
-one_argument scope (number_argument k) (number_argument l) t same s u = cc
-one_argument scope (name_argument c) (name_argument d) t same s u = cc
-one_argument scope (path_argument path) (path_argument other) t same s u = ap path_argument (one_path path other t s u)
-one_argument scope (width_argument v) (width_argument w) t same s u = cc (s.0, u.0)
-one_argument scope a b t same s u = cc
-
-one_arguments : (scope : Scope) (more others : List Argument) (ts : Forest) → map kind_of more ≡ map kind_of others → SpellsArguments scope more ts → SpellsArguments scope others ts → more ≡ others
-one_arguments scope [] [] ts same s u = refl
-one_arguments scope [] (b ∷ others) ts same s u = cc
-one_arguments scope (a ∷ more) [] ts same s u = cc
-one_arguments scope (a ∷ more) (b ∷ others) no_trees same s u = absurd s
-one_arguments scope (a ∷ more) (b ∷ others) (tree t ts) same s u =
-    let kind : kind_of a ≡ kind_of b = cc in
-    let kinds : map kind_of more ≡ map kind_of others = cc in
-    let first = one_argument scope a b t kind s.0 u.0 in
-    let rest = one_arguments scope more others ts kinds s.1 u.1 in
-    cc
-
--- ---- a rule with its place and arguments
-
-same_application : (a b : Application) → a.rule ≡ b.rule → a.arguments ≡ b.arguments → a ≡ b
-same_application a b rules arguments =
-    let make : List ℕ → List Argument → Application = λ rule more. record { rule = rule; arguments = more } in ap₂ make rules arguments
-
-one_application : (scope : Scope) (path other : List ℕ) (a b : Application) (t : Placed) → SpellsApplication scope path a t → SpellsApplication scope other b t → a ≡ b
-one_application scope path other a b t s u =
-    let rules : a.rule ≡ b.rule = cc (s.0, u.0) in
-    let kinds : argument_kinds a.rule ≡ Some (map kind_of a.arguments) = application_kinds scope path a t s in
-    let others : argument_kinds b.rule ≡ Some (map kind_of b.arguments) = application_kinds scope other b t u in
-    let joined : Some (map kind_of a.arguments) ≡ Some (map kind_of b.arguments) = sym kinds ∙ ap argument_kinds rules ∙ others in
-    let same : map kind_of a.arguments ≡ map kind_of b.arguments = cc joined in
-    same_application a b rules (one_arguments scope a.arguments b.arguments (without_first (operands t)) same s.2 u.2)
+one_rule : (scope : NameScope) (path other : List ℕ) (a b : Rule) (t : Located) → SpellsRule scope path a t → SpellsRule scope other b t → a ≡ b
+one_rule scope path other a b t s u =
+    let words : rule_word a ≡ rule_word b = cc (s.0, u.0) in
+    one_rule_of_word scope a b (without_first (operands t)) words s.2 u.2
 
 -- the list of a rule is no other step
-application_not_rev : (scope : Scope) (path : List ℕ) (a : Application) (t : Placed) → SpellsApplication scope path a t → head_of t ≡ Some (codes "rev") → ⊥
-application_not_rev scope path a t s is =
-    heads_apart a.rule (codes "rev") (head_of t) s.0 is (not_rev a.rule (map kind_of a.arguments) (application_kinds scope path a t s))
+rule_not_rev : (scope : NameScope) (path : List ℕ) (a : Rule) (t : Located) → SpellsRule scope path a t → head_of t ≡ Some (codes "rev") → ⊥
+rule_not_rev scope path a t s is = heads_apart (rule_word a) (codes "rev") (head_of t) s.0 is (not_rev a)
 
-application_not_use : (scope : Scope) (path : List ℕ) (a : Application) (t : Placed) → SpellsApplication scope path a t → head_of t ≡ Some (codes "use") → ⊥
-application_not_use scope path a t s is =
-    heads_apart a.rule (codes "use") (head_of t) s.0 is (not_use a.rule (map kind_of a.arguments) (application_kinds scope path a t s))
+rule_not_use : (scope : NameScope) (path : List ℕ) (a : Rule) (t : Located) → SpellsRule scope path a t → head_of t ≡ Some (codes "use") → ⊥
+rule_not_use scope path a t s is = heads_apart (rule_word a) (codes "use") (head_of t) s.0 is (not_use a)
 
 -- ---- the TERM of a step backwards
 
-one_term : (scope : Scope) (rule : List ℕ) (a b : Term) (t : Placed) → SpellsTerm scope rule a t → SpellsTerm scope rule b t → a ≡ b
-one_term scope rule (protocol_term p) (protocol_term q) t s u = ap protocol_term (one_protocol scope p q t s.1 u.1)
-one_term scope rule (protocol_term p) (reaction_term r) t s u = absurd (rules_apart rule u.0 s.0)
-one_term scope rule (protocol_term p) (expression_term e) t s u = absurd u
-one_term scope rule (reaction_term r) (protocol_term p) t s u = absurd (rules_apart rule s.0 u.0)
-one_term scope rule (reaction_term r) (reaction_term q) t s u = ap reaction_term (one_reaction scope r q t s.1 u.1)
-one_term scope rule (reaction_term r) (expression_term e) t s u = absurd u
-one_term scope rule (expression_term e) b t s u = absurd s
+one_term : (scope : NameScope) (kind : RuleKind) (a b : Term) (t : Located) → SpellsTerm scope kind a t → SpellsTerm scope kind b t → a ≡ b
+one_term scope at_protocols (protocol_term p) (protocol_term q) t s u = ap protocol_term (one_protocol scope p q t s u)
+one_term scope at_protocols (protocol_term p) (reaction_term r) t s u = absurd u
+one_term scope at_protocols (protocol_term p) (expression_term e) t s u = absurd u
+one_term scope at_protocols (reaction_term r) b t s u = absurd s
+one_term scope at_protocols (expression_term e) b t s u = absurd s
+one_term scope at_reactions (reaction_term r) (reaction_term q) t s u = ap reaction_term (one_reaction scope r q t s u)
+one_term scope at_reactions (reaction_term r) (protocol_term p) t s u = absurd u
+one_term scope at_reactions (reaction_term r) (expression_term e) t s u = absurd u
+one_term scope at_reactions (protocol_term p) b t s u = absurd s
+one_term scope at_reactions (expression_term e) b t s u = absurd s
+one_term scope at_expressions a b t s u = absurd s
 
 -- ---- pairs and directions
 
@@ -106,45 +63,45 @@ one_pairs before (p ∷ ps) (q ∷ qs) (tree t ts) s u =
     let rest = one_pairs (before ++ p.0 ∷ []) ps qs ts s.4 (subst (λ x. ArePairs (before ++ x ∷ []) qs ts) (sym firsts) u.4) in
     ap₂ (λ (x : List ℕ × List ℕ) (xs : List (List ℕ × List ℕ)). x ∷ xs) (same_pair p q firsts seconds) rest
 
-one_dir : (a b : Dir) (name : Option (List ℕ)) → name ≡ Some (dir_word a) → name ≡ Some (dir_word b) → a ≡ b
-one_dir Lr Lr name is too = refl
-one_dir Lr Rl name is too = absurd (heads_apart (codes "lr") (codes "rl") name is too refl)
-one_dir Rl Lr name is too = absurd (heads_apart (codes "rl") (codes "lr") name is too refl)
-one_dir Rl Rl name is too = refl
+one_direction : (a b : Direction) (name : Option (List ℕ)) → name ≡ Some (direction_word a) → name ≡ Some (direction_word b) → a ≡ b
+one_direction lr lr name is too = refl
+one_direction lr rl name is too = absurd (heads_apart (codes "lr") (codes "rl") name is too refl)
+one_direction rl lr name is too = absurd (heads_apart (codes "rl") (codes "lr") name is too refl)
+one_direction rl rl name is too = refl
 
 -- ---- steps
 
-one_step : (earlier : Earlier) (m n : Move) (t : Placed) → SpellsMove earlier m t → SpellsMove earlier n t → m ≡ n
-one_step earlier (forward path a) (forward other b) t s u =
-    ap₂ forward (one_path path other (operand 0 t) s.1 u.1) (one_application (step_scope earlier) path other a b t s u)
-one_step earlier (forward path a) (backward other b term) t s u =
-    absurd (application_not_rev (step_scope earlier) path a t s u.0.0)
-one_step earlier (forward path a) (invocation other name dir pairs) t s u =
-    absurd (application_not_use (step_scope earlier) path a t s u.0.0)
-one_step earlier (backward path a term) (forward other b) t s u =
-    absurd (application_not_rev (step_scope earlier) other b t u s.0.0)
-one_step earlier (backward path a x) (backward other b y) t s u =
+one_step : (earlier : Earlier) (m n : Step) (t : Located) → SpellsStep earlier m t → SpellsStep earlier n t → m ≡ n
+one_step earlier (plain path a) (plain other b) t s u =
+    ap₂ plain (one_path path other (operand 0 t) s.1 u.1) (one_rule (step_scope earlier) path other a b t s u)
+one_step earlier (plain path a) (rev other b term) t s u =
+    absurd (rule_not_rev (step_scope earlier) path a t s u.0.0)
+one_step earlier (plain path a) (invoke other name direction pairs) t s u =
+    absurd (rule_not_use (step_scope earlier) path a t s u.0.0)
+one_step earlier (rev path a term) (plain other b) t s u =
+    absurd (rule_not_rev (step_scope earlier) other b t u s.0.0)
+one_step earlier (rev path a x) (rev other b y) t s u =
     let paths = one_path path other (operand 0 (operand 0 t)) s.1.1 u.1.1 in
-    let rules = one_application (step_scope earlier) path other a b (operand 0 t) s.1 u.1 in
-    let back : SpellsTerm (step_scope earlier) a.rule y (operand 1 t) = subst (λ (c : Application). SpellsTerm (step_scope earlier) c.rule y (operand 1 t)) (sym rules) u.2 in
-    let terms = one_term (step_scope earlier) a.rule x y (operand 1 t) s.2 back in
+    let rules = one_rule (step_scope earlier) path other a b (operand 0 t) s.1 u.1 in
+    let back : SpellsTerm (step_scope earlier) (row_of a).kind y (operand 1 t) = subst (λ (c : Rule). SpellsTerm (step_scope earlier) (row_of c).kind y (operand 1 t)) (sym rules) u.2 in
+    let terms = one_term (step_scope earlier) (row_of a).kind x y (operand 1 t) s.2 back in
     rw (paths, rules, terms) refl
-one_step earlier (backward path a x) (invocation other name dir pairs) t s u =
+one_step earlier (rev path a x) (invoke other name direction pairs) t s u =
     absurd (heads_apart (codes "rev") (codes "use") (head_of t) s.0.0 u.0.0 refl)
-one_step earlier (invocation path name dir pairs) (forward other b) t s u =
-    absurd (application_not_use (step_scope earlier) other b t u s.0.0)
-one_step earlier (invocation path name dir pairs) (backward other b y) t s u =
+one_step earlier (invoke path name direction pairs) (plain other b) t s u =
+    absurd (rule_not_use (step_scope earlier) other b t u s.0.0)
+one_step earlier (invoke path name direction pairs) (rev other b y) t s u =
     absurd (heads_apart (codes "use") (codes "rev") (head_of t) s.0.0 u.0.0 refl)
-one_step earlier (invocation path name dir pairs) (invocation path₂ name₂ dir₂ pairs₂) t s u =
+one_step earlier (invoke path name direction pairs) (invoke path₂ name₂ direction₂ pairs₂) t s u =
     let names : name ≡ name₂ = cc (s.1, u.1) in
     let paths = one_path path path₂ (operand 1 t) s.3 u.3 in
-    let dirs = one_dir dir dir₂ (word_in (operand 2 t)) s.4 u.4 in
+    let directions = one_direction direction direction₂ (word_in (operand 2 t)) s.4 u.4 in
     let all = one_pairs [] pairs pairs₂ (parts_of (operand 3 t)) s.6 u.6 in
-    rw (paths, names, dirs, all) refl
+    rw (paths, names, directions, all) refl
 
 -- ---- scripts
 
-one_steps : (earlier : Earlier) (ms ns : List Move) (ts : Forest) → AreMoves earlier ms ts → AreMoves earlier ns ts → ms ≡ ns
+one_steps : (earlier : Earlier) (ms ns : List Step) (ts : Forest) → AreSteps earlier ms ts → AreSteps earlier ns ts → ms ≡ ns
 one_steps earlier [] [] ts s u = refl
 one_steps earlier [] (n ∷ ns) no_trees s u = absurd u
 one_steps earlier [] (n ∷ ns) (tree t ts) s u = absurd s
@@ -154,5 +111,5 @@ one_steps earlier (m ∷ ms) (n ∷ ns) no_trees s u = absurd s
 one_steps earlier (m ∷ ms) (n ∷ ns) (tree t ts) s u =
     let first = one_step earlier m n t s.0 u.0 in let rest = one_steps earlier ms ns ts s.1 u.1 in cc
 
-pub one_side : (earlier : Earlier) (side : List ℕ) (ms ns : List Move) (t : Placed) → SpellsSide earlier side ms t → SpellsSide earlier side ns t → ms ≡ ns
+pub one_side : (earlier : Earlier) (side : List ℕ) (ms ns : List Step) (t : Located) → SpellsSide earlier side ms t → SpellsSide earlier side ns t → ms ≡ ns
 one_side earlier side ms ns t s u = one_steps earlier ms ns (operands t) s.1 u.1

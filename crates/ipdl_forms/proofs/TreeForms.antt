@@ -3,24 +3,17 @@ use Rattle.std.proofs.Common.{◌≡◌, ℕ, suc, true, false, List, Option, So
 use Rattle.std.specs.Prelude.{bytes_eq}
 use Rattle.std.proofs.lemmas.Bool.{false_from_ne_true, false≢true}
 use Rattle.std.proofs.lemmas.Slice.Eq.{bytes_eq-Decides}
-use Rattle.ipdl_tree.specs.Trees.{Placed, word, number, literal, group, Forest, no_trees, tree}
+use Rattle.ipdl_tree.specs.Trees.{Located, word, group, Forest, no_trees, tree}
 use Rattle.ipdl_forms.specs.Lists.{tree_count, tree_at, without_first, head_of, is_list}
 use Rattle.ipdl_forms.specs.Steps.{first_name}
+use Rattle.ipdl_forms.proofs.Forms.{headed}
 
 -- what holds of each list with a word in front holds of a tree that has it
-pub with_head : (P : Placed → Type 0) (t : Placed) (name : List ℕ) → head_of t ≡ Some name → ((pos at : ℕ) (ts : Forest) → P (group pos (tree (word at name) ts))) → P t
-with_head P (word pos n) name is all = cc
-with_head P (number pos n) name is all = cc
-with_head P (literal pos bits) name is all = cc
-with_head P (group pos no_trees) name is all = cc
-with_head P (group pos (tree (word at n) ts)) name is all =
-    let same : name ≡ n = cc in subst (λ x. P (group pos (tree (word at x) ts))) same (all pos at ts)
-with_head P (group pos (tree (number at n) ts)) name is all = cc
-with_head P (group pos (tree (literal at bits) ts)) name is all = cc
-with_head P (group pos (tree (group at us) ts)) name is all = cc
+pub with_head : (P : Located → Type 0) (t : Located) (name : List ℕ) → head_of t ≡ Some name → ((pos at : ℕ) (ts : Forest) → P (group pos (tree (word at name) ts))) → P t
+with_head P t name is all = headed name P all t is
 
 -- the head is the first name
-pub first_name_head : (t : Placed) (name : List ℕ) → head_of t ≡ Some name → first_name t ≡ name
+pub first_name_head : (t : Located) (name : List ℕ) → head_of t ≡ Some name → first_name t ≡ name
 first_name_head t name is = with_head (λ u. first_name u ≡ name) t name is (λ pos at ts. refl)
 
 -- trees of which the first is a list

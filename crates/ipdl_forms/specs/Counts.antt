@@ -20,8 +20,3 @@ IsWithinNodes count = IfSome count (λ n. n ≤ most_nodes)
 -- the tree at an offset passes the limit with this count
 abbrev pub node_faults : Option ℕ → ℕ → List DocFault
 node_faults count pos = tested (is_within_nodes count) (over_fault Nodes pos)
-
--- nodes are counted, and there are no fewer of them than this and no more than the limit
-abbrev pub IsUnder : ℕ → Option ℕ → Type 0
-IsUnder depth None = ⊥
-IsUnder depth (Some count) = (depth ≤ count) × (count ≤ most_nodes)

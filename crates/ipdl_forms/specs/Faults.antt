@@ -1,7 +1,7 @@
 -- The tests that fail where a document is read, in reading order. The first one is told.
 use Rattle.std.specs.Prelude.{◌≡◌, ◌≢◌, ℕ, Bool, true, false, List, [], ◌∷◌, Option, Some, None}
 use Rattle.ipdl_base.specs.declared.limit.Limit.{Limit}
-use Rattle.ipdl_tree.specs.Trees.{Placed, place_of}
+use Rattle.ipdl_tree.specs.Trees.{Located, offset_of}
 use Rattle.ipdl_forms.specs.declared.fault.FormCause.{FormCause}
 use Rattle.ipdl_forms.specs.declared.fault.FormCause.TheVariants.{NotAForm}
 use Rattle.ipdl_forms.specs.Lists.{is_word}
@@ -22,8 +22,8 @@ tested true fault = []
 tested false fault = fault ∷ []
 
 -- the tree is a word
-abbrev pub word_faults : Placed → List DocFault
-word_faults t = tested (is_word t) (form_fault NotAForm (place_of t))
+abbrev pub word_faults : Located → List DocFault
+word_faults t = tested (is_word t) (form_fault NotAForm (offset_of t))
 
 -- the first of the faults, if there is one
 abbrev pub first_fault : List DocFault → Option DocFault

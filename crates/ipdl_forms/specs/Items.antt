@@ -1,10 +1,12 @@
 -- Which trees spell an item of a document and a whole document, and the tests of one in reading order.
-use Rattle.std.specs.Prelude.{◌≡◌, ℕ, suc, ◌^◌, ◌==◌, ◌≤◌, ◌&&◌, ◌||◌, not, nat_le, nat_lt, Bool, true, false, List, [], ◌∷◌, ◌++◌, length, map, codes, bytes_eq, Option, Some, None, if◌then◌else◌}
+use Rattle.std.specs.Prelude.{◌≡◌, ℕ, suc, ◌^◌, ◌==◌, ◌≤◌, ◌&&◌, ◌||◌, not, nat_le, nat_lt, Bool, true, false, List, [], ◌∷◌, ◌++◌, length, codes, bytes_eq, Option, Some, None, if◌then◌else◌}
+use Rattle.ipdl_base.specs.Limits.{limit_number}
 use Rattle.ipdl_base.specs.declared.limit.Limit.TheVariants.{Items}
 use Rattle.ipdl_sig.specs.declared.symbol.Symbol.{Symbol}
 use Rattle.ipdl_term.specs.declared.interface.Interface.{Interface}
 use Rattle.ipdl_term.specs.declared.interface.Port.{Port}
-use Rattle.ipdl_tree.specs.Trees.{Placed, word, number, literal, group, Forest, no_trees, tree, place_of}
+use Rattle.ipdl_term.specs.Typing.{port_names}
+use Rattle.ipdl_tree.specs.Trees.{Located, word, number, literal, group, Forest, no_trees, tree, offset_of}
 use Rattle.ipdl_forms.specs.declared.fault.FormCause.TheVariants.{NotAForm, Repeated, WrongWidth, TableLength}
 use Rattle.ipdl_forms.specs.declared.fault.DocFault.{DocFault}
 use Rattle.ipdl_forms.specs.Documents.{Entry, symbol_entry, protocol_entry, assumption_entry, theorem_entry, Document, symbols_in}
@@ -12,7 +14,7 @@ use Rattle.ipdl_forms.specs.Faults.{form_fault, over_fault, tested, word_faults}
 use Rattle.ipdl_forms.specs.Lists.{tree_count, tree_at, without_first, parts_of, is_among, word_in, number_in, literal_in, name_in, value_in, head_of, operands, operand, IsForm, IsLongForm}
 use Rattle.ipdl_forms.specs.Operators.{is_operator}
 use Rattle.ipdl_forms.specs.Protocols.{SpellsProtocol, protocol_faults}
-use Rattle.ipdl_forms.specs.Scopes.{Scope}
+use Rattle.ipdl_forms.specs.Scopes.{NameScope}
 use Rattle.ipdl_forms.specs.Steps.{Earlier, SpellsSide, side_faults, headed_faults, declared_faults, new_name_faults, first_name, list_faults}
 use Rattle.ipdl_forms.specs.Widths.{SpellsWidth, SpellsPort, greatest_width, width_faults, two_faults}
 
@@ -48,16 +50,16 @@ is_taken earlier name =
     || (is_among earlier.symbols name || (is_among earlier.protocols name || is_among earlier.statements name))
 
 -- the scope of the body of a protocol
-abbrev pub body_scope : Earlier → Scope
+abbrev pub body_scope : Earlier → NameScope
 body_scope earlier = record { symbols = earlier.symbols; binders = []; in_step = false }
 
 -- the name of an item
-abbrev pub SpellsNewName : Earlier → List ℕ → Placed → Type 0
+abbrev pub SpellsNewName : Earlier → List ℕ → Located → Type 0
 SpellsNewName earlier name t = (word_in t ≡ Some name) × (is_taken earlier name ≡ false)
 
-abbrev pub item_name_faults : Earlier → Placed → List DocFault
+abbrev pub item_name_faults : Earlier → Located → List DocFault
 item_name_faults earlier t =
-    word_faults t ++ tested (not (is_taken earlier (name_in t))) (form_fault Repeated (place_of t))
+    word_faults t ++ tested (not (is_taken earlier (name_in t))) (form_fault Repeated (offset_of t))
 
 -- ---- symbols
 
@@ -72,7 +74,7 @@ AreValues w (v ∷ vs) (tree t ts) = (literal_in t ≡ Some v) × (length v ≡ 
 abbrev pub greatest_table_width : ℕ
 greatest_table_width = 12
 
-abbrev pub SpellsSymbol : Earlier → Symbol → Placed → Type 0
+abbrev pub SpellsSymbol : Earlier → Symbol → Located → Type 0
 SpellsSymbol earlier s t =
     SpellsNewName earlier s.name (operand 0 t) × (number_in (operand 1 t) ≡ Some s.from)
     × SpellsWidth s.to (operand 2 t) × by_values s.values
@@ -83,7 +85,7 @@ SpellsSymbol earlier s t =
         IsForm (codes "table") 4 t × (s.from ≤ greatest_table_width) × AreValues s.to values (parts_of (operand 3 t))
         × (length values ≡ 2 ^ s.from)
 
-abbrev pub value_faults : ℕ → Placed → List DocFault
+abbrev pub value_faults : ℕ → Located → List DocFault
 value_faults w (word pos name) = form_fault NotAForm pos ∷ []
 value_faults w (number pos n) = form_fault NotAForm pos ∷ []
 value_faults w (literal pos bits) = tested (length bits == w) (form_fault WrongWidth pos)
@@ -94,10 +96,10 @@ all_value_faults w no_trees = []
 all_value_faults w (tree t ts) = value_faults w t ++ all_value_faults w ts
 
 -- a value of the second width for each argument of the first one
-abbrev pub table_faults : ℕ → ℕ → Placed → List DocFault
+abbrev pub table_faults : ℕ → ℕ → Located → List DocFault
 table_faults from to t =
     list_faults t ++ all_value_faults to (parts_of t)
-    ++ tested (tree_count (parts_of t) == 2 ^ from) (form_fault TableLength (place_of t))
+    ++ tested (tree_count (parts_of t) == 2 ^ from) (form_fault TableLength (offset_of t))
 
 -- ---- protocols
 
@@ -109,16 +111,13 @@ ArePorts before (p ∷ ps) no_trees = ⊥
 ArePorts before (p ∷ ps) (tree t ts) =
     SpellsPort p.name p.width t × (is_among before p.name ≡ false) × ArePorts (before ++ p.name ∷ []) ps ts
 
-abbrev pub port_names : List Port → List (List ℕ)
-port_names ports = map (λ p. p.name) ports
-
-abbrev pub SpellsInterface : Interface → (inputs outputs : Placed) → Type 0
+abbrev pub SpellsInterface : Interface → (inputs outputs : Located) → Type 0
 SpellsInterface interface inputs outputs =
     (head_of inputs ≡ Some (codes "inputs")) × ArePorts [] interface.inputs (operands inputs)
     × (head_of outputs ≡ Some (codes "outputs"))
     × ArePorts (port_names interface.inputs) interface.outputs (operands outputs)
 
-abbrev pub interface_port_faults : List (List ℕ) → Placed → List DocFault
+abbrev pub interface_port_faults : List (List ℕ) → Located → List DocFault
 interface_port_faults before (word pos name) = form_fault NotAForm pos ∷ []
 interface_port_faults before (number pos n) = form_fault NotAForm pos ∷ []
 interface_port_faults before (literal pos bits) = form_fault NotAForm pos ∷ []
@@ -134,7 +133,7 @@ abbrev pub first_names : Forest → List (List ℕ)
 first_names no_trees = []
 first_names (tree t ts) = first_name t ∷ first_names ts
 
-abbrev pub interface_faults : (inputs outputs : Placed) → List DocFault
+abbrev pub interface_faults : (inputs outputs : Located) → List DocFault
 interface_faults inputs outputs =
     headed_faults (codes "inputs") inputs ++ all_port_faults [] (operands inputs)
     ++ headed_faults (codes "outputs") outputs ++ all_port_faults (first_names (operands inputs)) (operands outputs)
@@ -142,12 +141,12 @@ interface_faults inputs outputs =
 -- ---- items
 
 -- the two earlier protocols of an assumption or a theorem
-abbrev pub SpellsSides : Earlier → (left right : List ℕ) → Placed → Type 0
+abbrev pub SpellsSides : Earlier → (left right : List ℕ) → Located → Type 0
 SpellsSides earlier left right t =
     (word_in (operand 1 t) ≡ Some left) × (is_among earlier.protocols left ≡ true)
     × (word_in (operand 2 t) ≡ Some right) × (is_among earlier.protocols right ≡ true)
 
-abbrev pub SpellsEntry : Earlier → Entry → Placed → Type 0
+abbrev pub SpellsEntry : Earlier → Entry → Located → Type 0
 SpellsEntry earlier (symbol_entry n s) t = (n ≡ length earlier.symbols) × SpellsSymbol earlier s t
 SpellsEntry earlier (protocol_entry name interface body) t =
     IsForm (codes "protocol") 4 t × SpellsNewName earlier name (operand 0 t)
@@ -205,7 +204,7 @@ item_part_faults earlier (Some theorem_form) ts =
     ++ side_faults earlier (codes "left") 0 (tree_at 3 ts)
     ++ side_faults earlier (codes "right") (tree_count (operands (tree_at 3 ts))) (tree_at 4 ts)
 
-abbrev pub item_faults : Earlier → Placed → List DocFault
+abbrev pub item_faults : Earlier → Located → List DocFault
 item_faults earlier (word pos name) = form_fault NotAForm pos ∷ []
 item_faults earlier (number pos n) = form_fault NotAForm pos ∷ []
 item_faults earlier (literal pos bits) = form_fault NotAForm pos ∷ []
@@ -226,7 +225,7 @@ earlier_after (Some protocol_form) name earlier = with_protocol name earlier
 earlier_after (Some assume_form) name earlier = with_statement name earlier
 earlier_after (Some theorem_form) name earlier = with_statement name earlier
 
-abbrev pub earlier_past : Placed → Earlier → Earlier
+abbrev pub earlier_past : Located → Earlier → Earlier
 earlier_past t earlier = earlier_after (item_form (first_name t)) (name_in (operand 0 t)) earlier
 
 -- ---- documents
@@ -241,29 +240,29 @@ AreEntries earlier (e ∷ es) (tree t ts) = SpellsEntry earlier e t × AreEntrie
 abbrev pub this_version : ℕ
 this_version = 1
 
-abbrev pub SpellsDocument : Document → Placed → Type 0
+abbrev pub SpellsDocument : Document → Located → Type 0
 SpellsDocument d t =
     IsLongForm (codes "ipdl") 1 t × (d.version ≡ this_version) × (number_in (operand 0 t) ≡ Some this_version)
     × AreEntries nothing_earlier d.entries (without_first (operands t)) × (d.symbols ≡ symbols_in d.entries)
 
 -- the most items of a document
 abbrev pub most_items : ℕ
-most_items = 512
+most_items = limit_number Items
 
 -- items, so many being read before
 abbrev pub all_item_faults : Earlier → ℕ → Forest → List DocFault
 all_item_faults earlier before no_trees = []
 all_item_faults earlier before (tree t ts) =
-    tested (nat_lt before most_items) (over_fault Items (place_of t)) ++ item_faults earlier t
+    tested (nat_lt before most_items) (over_fault Items (offset_of t)) ++ item_faults earlier t
     ++ all_item_faults (earlier_past t earlier) (suc before) ts
 
-abbrev pub version_faults : Placed → List DocFault
+abbrev pub version_faults : Located → List DocFault
 version_faults (word pos name) = form_fault NotAForm pos ∷ []
 version_faults (number pos n) = tested (n == this_version) (form_fault NotAForm pos)
 version_faults (literal pos bits) = form_fault NotAForm pos ∷ []
 version_faults (group pos ts) = form_fault NotAForm pos ∷ []
 
-abbrev pub document_faults : Placed → List DocFault
+abbrev pub document_faults : Located → List DocFault
 document_faults (word pos name) = form_fault NotAForm pos ∷ []
 document_faults (number pos n) = form_fault NotAForm pos ∷ []
 document_faults (literal pos bits) = form_fault NotAForm pos ∷ []

@@ -1,8 +1,8 @@
+-- The definitions of this crate.
 pub mod Faults
 pub mod Lists
 pub mod Operators
 pub mod Scopes
-pub mod Binders
 pub mod Counts
 pub mod Expressions
 pub mod Widths
@@ -10,10 +10,7 @@ pub mod Reactions
 pub mod Protocols
 pub mod Documents
 pub mod Steps
-pub mod Rules
-pub mod Uses
 pub mod Items
 pub mod Lookups
 pub mod Earlier
-pub mod Parts
 pub mod Limits

@@ -2,20 +2,21 @@
 use Rattle.std.specs.Prelude.{◌+◌, ◌≤◌, List, length}
 use Rattle.std.specs.List.{AllByRecursion}
 use Rattle.ipdl_term.specs.Sizes.{protocol_nodes, term_nodes, most_nodes}
-use Rattle.ipdl_forms.specs.Documents.{Move, forward, backward, invocation, Entry, symbol_entry, protocol_entry, assumption_entry, theorem_entry, Document}
+use Rattle.ipdl_term.specs.Steps.{Step, plain, rev, invoke}
+use Rattle.ipdl_forms.specs.Documents.{Entry, symbol_entry, protocol_entry, assumption_entry, theorem_entry, Document}
 use Rattle.ipdl_forms.specs.Items.{most_items}
 use Rattle.ipdl_forms.specs.Steps.{most_steps}
 
 -- the TERM of a step backwards has few nodes
-abbrev pub IsMoveWithin : Move → Type 0
-IsMoveWithin (forward path a) = Unit {0}
-IsMoveWithin (backward path a term) = term_nodes term ≤ most_nodes
-IsMoveWithin (invocation path name dir pairs) = Unit {0}
+abbrev pub IsStepWithin : Step → Type 0
+IsStepWithin (plain place rule) = Unit {0}
+IsStepWithin (rev place rule term) = term_nodes term ≤ most_nodes
+IsStepWithin (invoke place name direction pairs) = Unit {0}
 
 -- both sides of a theorem have few steps together
-abbrev pub AreSidesWithin : (lefts rights : List Move) → Type 0
+abbrev pub AreSidesWithin : (lefts rights : List Step) → Type 0
 AreSidesWithin lefts rights =
-    (length lefts + length rights ≤ most_steps) × AllByRecursion IsMoveWithin lefts × AllByRecursion IsMoveWithin rights
+    (length lefts + length rights ≤ most_steps) × AllByRecursion IsStepWithin lefts × AllByRecursion IsStepWithin rights
 
 abbrev pub IsEntryWithin : Entry → Type 0
 IsEntryWithin (symbol_entry n s) = Unit {0}

@@ -1,37 +1,37 @@
 -- Which trees spell a protocol, and the tests of one in reading order.
 use Rattle.std.specs.Prelude.{◌≡◌, ℕ, ◌+◌, ◌-◌, ◌==◌, nat_le, Bool, false, List, [], ◌∷◌, ◌++◌, codes, bytes_eq, Option, Some, None, if◌then◌else◌}
 use Rattle.ipdl_term.specs.Terms.{Protocol, nil, assignment, parallel, hiding}
-use Rattle.ipdl_tree.specs.Trees.{Placed, word, number, literal, group, Forest, no_trees, tree, place_of}
+use Rattle.ipdl_tree.specs.Trees.{Located, word, number, literal, group, Forest, no_trees, tree, offset_of}
 use Rattle.ipdl_forms.specs.declared.fault.FormCause.TheVariants.{NotAForm}
 use Rattle.ipdl_forms.specs.declared.fault.DocFault.{DocFault}
 use Rattle.ipdl_forms.specs.Counts.{counted, node_faults}
 use Rattle.ipdl_forms.specs.Faults.{form_fault, tested, word_faults}
 use Rattle.ipdl_forms.specs.Lists.{tree_count, tree_at, without_first, parts_of, word_in, name_in, operands, operand, IsForm, IsLongForm}
 use Rattle.ipdl_forms.specs.Reactions.{SpellsReaction, reaction_count, reaction_faults}
-use Rattle.ipdl_forms.specs.Scopes.{Scope}
+use Rattle.ipdl_forms.specs.Scopes.{NameScope}
 use Rattle.ipdl_forms.specs.Widths.{SpellsPort, port_faults}
 
 -- ---- what is spelled
 
 -- `(par P Q R)` is written for `(par P (par Q R))`: what stands beside the first part
-abbrev pub beside_first : Placed → Placed
+abbrev pub beside_first : Located → Located
 beside_first t =
     if tree_count (operands t) == 2 then operand 1 t
-    else group (place_of t) (tree (word (place_of t) (codes "par")) (without_first (operands t)))
+    else group (offset_of t) (tree (word (offset_of t) (codes "par")) (without_first (operands t)))
 
 -- the ports of a `new`
-abbrev pub ports_in : Placed → Forest
+abbrev pub ports_in : Located → Forest
 ports_in t = parts_of (operand 0 t)
 
 -- `(new ((c v) (d w)) P)` is written for `(new ((c v)) (new ((d w)) P))`: what stands under the first port
-abbrev pub under_first : Placed → Placed
+abbrev pub under_first : Located → Located
 under_first t =
     if tree_count (ports_in t) == 1 then operand 1 t
-    else group (place_of t)
-    (tree (word (place_of t) (codes "new"))
-    (tree (group (place_of t) (without_first (ports_in t))) (tree (operand 1 t) no_trees)))
+    else group (offset_of t)
+    (tree (word (offset_of t) (codes "new"))
+    (tree (group (offset_of t) (without_first (ports_in t))) (tree (operand 1 t) no_trees)))
 
-abbrev pub SpellsProtocol : Scope → Protocol → Placed → Type 0
+abbrev pub SpellsProtocol : NameScope → Protocol → Located → Type 0
 SpellsProtocol scope nil t = IsForm (codes "nil") 0 t
 SpellsProtocol scope (assignment c r) t =
     IsForm (codes "out") 2 t × (word_in (operand 0 t) ≡ Some c) × SpellsReaction scope r (operand 1 t)
@@ -66,7 +66,7 @@ has_shape (Some par_shape) count = nat_le 2 count
 has_shape (Some new_shape) count = count == 2
 
 -- how many ports a `new` has, or one where no list of them stands there
-abbrev pub port_count : Placed → ℕ
+abbrev pub port_count : Located → ℕ
 port_count (word pos name) = 1
 port_count (number pos n) = 1
 port_count (literal pos bits) = 1
@@ -82,7 +82,7 @@ shape_count (Some new_shape) ts = port_count (tree_at 0 ts)
 
 -- how many nodes are counted in the tree of a protocol
 abbrev mutual
-  pub protocol_count : Placed → ℕ
+  pub protocol_count : Located → ℕ
   protocol_count (word pos name) = 0
   protocol_count (number pos n) = 0
   protocol_count (literal pos bits) = 0
@@ -106,7 +106,7 @@ hidden_faults no_trees = []
 hidden_faults (tree t ts) = port_faults t ++ hidden_faults ts
 
 -- the ports of a `new`, at least one
-abbrev pub new_faults : Placed → List DocFault
+abbrev pub new_faults : Located → List DocFault
 new_faults (word pos name) = form_fault NotAForm pos ∷ []
 new_faults (number pos n) = form_fault NotAForm pos ∷ []
 new_faults (literal pos bits) = form_fault NotAForm pos ∷ []
@@ -115,7 +115,7 @@ new_faults (group pos (tree t ts)) = hidden_faults (tree t ts)
 
 -- the tests of a protocol, so many nodes being counted before
 abbrev mutual
-  pub protocol_faults : Scope → Option ℕ → Placed → List DocFault
+  pub protocol_faults : NameScope → Option ℕ → Located → List DocFault
   protocol_faults scope count (word pos name) = form_fault NotAForm pos ∷ []
   protocol_faults scope count (number pos n) = form_fault NotAForm pos ∷ []
   protocol_faults scope count (literal pos bits) = form_fault NotAForm pos ∷ []
@@ -128,7 +128,7 @@ abbrev mutual
   protocol_faults scope count (group pos (tree (literal at bits) ts)) = form_fault NotAForm pos ∷ []
   protocol_faults scope count (group pos (tree (group at us) ts)) = form_fault NotAForm pos ∷ []
 
-  pub protocol_part_faults : Scope → Option ℕ → Option Shape → Forest → List DocFault
+  pub protocol_part_faults : NameScope → Option ℕ → Option Shape → Forest → List DocFault
   protocol_part_faults scope count (Some out_shape) (tree a (tree b no_trees)) =
       word_faults a ++ reaction_faults scope count b
   protocol_part_faults scope count (Some par_shape) (tree t ts) =
@@ -137,31 +137,7 @@ abbrev mutual
       new_faults a ++ protocol_faults scope count b
   protocol_part_faults scope count shape ts = []
 
-  pub protocols_faults : Scope → Option ℕ → Forest → List DocFault
+  pub protocols_faults : NameScope → Option ℕ → Forest → List DocFault
   protocols_faults scope count no_trees = []
   protocols_faults scope count (tree t ts) =
       protocol_faults scope count t ++ protocols_faults scope (counted (protocol_count t) count) ts
-
--- the tests of a list of the shape at an offset
-abbrev pub protocol_list_faults : Scope → Option ℕ → ℕ → Option Shape → Forest → List DocFault
-protocol_list_faults scope count pos shape ts =
-    tested (has_shape shape (tree_count ts)) (form_fault NotAForm pos)
-    ++ node_faults (counted (shape_count shape ts) count) pos
-    ++ protocol_part_faults scope (counted (shape_count shape ts) count) shape ts
-
--- how many nodes are counted in a list of the shape
-abbrev pub protocol_list_count : Option Shape → Forest → ℕ
-protocol_list_count shape ts = shape_count shape ts + protocol_part_count shape ts
-
--- ---- lists that are read part by part
-
--- the part alone, or the `par` of more of them
-abbrev pub beside_parts : Placed → Forest → Placed
-beside_parts a no_trees = a
-beside_parts a (tree b ts) = group 0 (tree (word 0 (codes "par")) (tree a (tree b ts)))
-
--- the tree alone, or with ports hidden in it
-abbrev pub under_ports : Forest → Placed → Placed
-under_ports no_trees y = y
-under_ports (tree d ds) y =
-    group 0 (tree (word 0 (codes "new")) (tree (group 0 (tree d ds)) (tree y no_trees)))

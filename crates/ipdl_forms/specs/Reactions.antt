@@ -1,19 +1,19 @@
 -- Which trees spell a reaction, and the tests of one in reading order.
 use Rattle.std.specs.Prelude.{◌≡◌, ℕ, suc, ◌+◌, ◌==◌, true, Bool, false, List, [], ◌∷◌, ◌++◌, length, codes, bytes_eq, Option, Some, None, unwrap_or, if◌then◌else◌}
 use Rattle.ipdl_term.specs.Terms.{Reaction, returning, flipping, reading, branching, binding}
-use Rattle.ipdl_tree.specs.Trees.{Placed, word, number, literal, group, Forest, no_trees, tree}
+use Rattle.ipdl_tree.specs.Trees.{Located, word, number, literal, group, Forest, no_trees, tree}
 use Rattle.ipdl_forms.specs.declared.fault.FormCause.TheVariants.{NotAForm}
 use Rattle.ipdl_forms.specs.declared.fault.DocFault.{DocFault}
 use Rattle.ipdl_forms.specs.Counts.{counted, node_faults}
 use Rattle.ipdl_forms.specs.Expressions.{SpellsExpression, expression_count, expression_faults}
 use Rattle.ipdl_forms.specs.Faults.{form_fault, tested, word_faults}
 use Rattle.ipdl_forms.specs.Lists.{tree_count, tree_at, is_word, word_in, name_in, operand, IsForm}
-use Rattle.ipdl_forms.specs.Scopes.{Scope, under_binder}
+use Rattle.ipdl_forms.specs.Scopes.{NameScope, under_binder}
 use Rattle.ipdl_forms.specs.Widths.{SpellsWidth, greatest_width, width_faults}
 
 -- ---- what is spelled
 
-abbrev pub SpellsReaction : Scope → Reaction → Placed → Type 0
+abbrev pub SpellsReaction : NameScope → Reaction → Located → Type 0
 SpellsReaction scope (returning e) t = IsForm (codes "ret") 1 t × SpellsExpression scope e (operand 0 t)
 SpellsReaction scope (flipping w) t = IsForm (codes "flip") 1 t × SpellsWidth w (operand 0 t)
 SpellsReaction scope (reading c) t = IsForm (codes "read") 1 t × (word_in (operand 0 t) ≡ Some c)
@@ -56,7 +56,7 @@ has_parts (Some parts) count = count == length parts
 
 -- how many nodes are counted in the tree of a reaction
 abbrev mutual
-  pub reaction_count : Placed → ℕ
+  pub reaction_count : Located → ℕ
   reaction_count (word pos name) = 0
   reaction_count (number pos n) = 0
   reaction_count (literal pos bits) = 0
@@ -74,7 +74,7 @@ abbrev mutual
 
 -- the tests of a reaction, so many nodes being counted before
 abbrev mutual
-  pub reaction_faults : Scope → Option ℕ → Placed → List DocFault
+  pub reaction_faults : NameScope → Option ℕ → Located → List DocFault
   reaction_faults scope count (word pos name) = form_fault NotAForm pos ∷ []
   reaction_faults scope count (number pos n) = form_fault NotAForm pos ∷ []
   reaction_faults scope count (literal pos bits) = form_fault NotAForm pos ∷ []
@@ -88,7 +88,7 @@ abbrev mutual
   reaction_faults scope count (group pos (tree (group at us) ts)) = form_fault NotAForm pos ∷ []
 
   -- the parts of a list, whose first one names the binder of a body
-  pub reaction_part_faults : Scope → List ℕ → Option ℕ → List ReactionPart → Forest → List DocFault
+  pub reaction_part_faults : NameScope → List ℕ → Option ℕ → List ReactionPart → Forest → List DocFault
   reaction_part_faults scope binder count wanted no_trees = []
   reaction_part_faults scope binder count [] (tree t ts) = []
   reaction_part_faults scope binder count (name_part ∷ wanted) (tree t ts) =
@@ -102,9 +102,3 @@ abbrev mutual
   reaction_part_faults scope binder count (body_part ∷ wanted) (tree t ts) =
       reaction_faults (under_binder binder scope) count t
       ++ reaction_part_faults scope binder (counted (reaction_count t) count) wanted ts
-
--- the tests of a list at an offset, which has to have these parts after its head
-abbrev pub reaction_list_faults : Scope → Option ℕ → ℕ → List ReactionPart → Forest → List DocFault
-reaction_list_faults scope count pos wanted ts =
-    tested (tree_count ts == length wanted) (form_fault NotAForm pos) ++ node_faults (counted 1 count) pos
-    ++ reaction_part_faults scope (name_in (tree_at 0 ts)) (counted 1 count) wanted ts

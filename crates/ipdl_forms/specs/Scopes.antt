@@ -1,30 +1,27 @@
 -- What names stand for where an expression is read.
 use Rattle.std.specs.Prelude.{ℕ, suc, ◌+◌, ◌*◌, ◌-◌, ◌^◌, ◌==◌, ◌&&◌, not, nat_le, nat_lt, Bool, List, [], ◌∷◌, bytes_eq, position, Option, Some, None, is_none, option_map, if◌then◌else◌}
-use Rattle.ipdl_sig.specs.Symbols.{names_of}
-use Rattle.ipdl_forms.specs.declared.scope.Scope.{Scope as Held}
-use Rattle.ipdl_forms.specs.Binders.{binder_names}
-use Rattle.ipdl_tree.specs.Trees.{Placed, word, number, literal, group}
+use Rattle.ipdl_tree.specs.Trees.{Located, word, number, literal, group}
 
 -- the names of the symbols that are declared before, the first one first; those of the binders around, the innermost
 -- first; and whether binders outside of the tree may be named, as in the arguments of a step
-pub record Scope : Type 0 where
+pub record NameScope : Type 0 where
   pub symbols : List (List ℕ)
   pub binders : List (List ℕ)
   pub in_step : Bool
 
 -- the scope under one more binder
-abbrev pub under_binder : List ℕ → Scope → Scope
+abbrev pub under_binder : List ℕ → NameScope → NameScope
 under_binder name scope =
     record { symbols = scope.symbols; binders = name ∷ scope.binders; in_step = scope.in_step }
 
 -- how far in the list a name stands first
-abbrev pub place_among : List (List ℕ) → List ℕ → Option ℕ
-place_among [] name = None
-place_among (other ∷ others) name =
-    if bytes_eq other name then Some 0 else option_map suc (place_among others name)
+abbrev pub binder_among : List (List ℕ) → List ℕ → Option ℕ
+binder_among [] name = None
+binder_among (other ∷ others) name =
+    if bytes_eq other name then Some 0 else option_map suc (binder_among others name)
 
 -- the number of the symbol that a name is of
-abbrev pub symbol_number : Scope → List ℕ → Option ℕ
+abbrev pub symbol_number : NameScope → List ℕ → Option ℕ
 symbol_number scope name = position (bytes_eq name) scope.symbols
 
 -- ---- outer variables: `x` and the depth of their binder
@@ -52,30 +49,24 @@ outer_number (c ∷ digits) = if c == 120 then number_spelled digits else None
 -- ---- variables
 
 -- the number of the binder that a name has
-abbrev pub bound_number : Scope → List ℕ → Option ℕ
-bound_number scope name = place_among scope.binders name
+abbrev pub bound_number : NameScope → List ℕ → Option ℕ
+bound_number scope name = binder_among scope.binders name
 
 -- the number of the binder outside that a name has
-abbrev pub free_number : Scope → List ℕ → Option ℕ
+abbrev pub free_number : NameScope → List ℕ → Option ℕ
 free_number scope name =
     if scope.in_step && is_none (bound_number scope name) then outer_number name else None
 
 -- the binder that a tree names
-abbrev pub bound_variable : Scope → Placed → Option ℕ
+abbrev pub bound_variable : NameScope → Located → Option ℕ
 bound_variable scope (word pos name) = bound_number scope name
 bound_variable scope (number pos n) = None
 bound_variable scope (literal pos bits) = None
 bound_variable scope (group pos ts) = None
 
 -- the binder outside that a tree names
-abbrev pub free_variable : Scope → Placed → Option ℕ
+abbrev pub free_variable : NameScope → Located → Option ℕ
 free_variable scope (word pos name) = free_number scope name
 free_variable scope (number pos n) = None
 free_variable scope (literal pos bits) = None
 free_variable scope (group pos ts) = None
-
--- ---- the scope that the program keeps
-
-abbrev pub scope_of : Held → Scope
-scope_of held =
-    record { symbols = names_of held.sig.now; binders = binder_names held.binders; in_step = held.in_step }

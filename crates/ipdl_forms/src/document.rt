@@ -1,9 +1,11 @@
+//! Documents as the program holds them: symbols, and items in their order.
+
 use ipdl_base::{List, Name};
 use ipdl_sig::Sig;
 use ipdl_term::{Interface, Proto, Step};
 
 /// A protocol with its interface.
-#[derive(Debug, Drop)]
+#[derive(Drop)]
 pub struct ProtocolItem {
     pub name: Name,
     pub interface: Interface,
@@ -11,7 +13,7 @@ pub struct ProtocolItem {
 }
 
 /// An assumption: two earlier protocols, which scripts may exchange.
-#[derive(Debug, Drop)]
+#[derive(Drop)]
 pub struct AssumeItem {
     pub name: Name,
     pub left: Name,
@@ -19,7 +21,7 @@ pub struct AssumeItem {
 }
 
 /// A theorem: two earlier protocols, and a script that starts at each.
-#[derive(Debug, Drop)]
+#[derive(Drop)]
 pub struct TheoremItem {
     pub name: Name,
     pub left: Name,
@@ -29,7 +31,7 @@ pub struct TheoremItem {
 }
 
 /// An item of a document. A symbol is named by its number in the signature.
-#[derive(Debug, Drop)]
+#[derive(Drop)]
 pub enum Item {
     Symbol(u32),
     Protocol(ProtocolItem),

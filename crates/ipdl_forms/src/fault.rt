@@ -1,3 +1,5 @@
+//! Why a tree is refused as a document: the cause and the offset of the first test that fails.
+
 ghost use Rattle.std.specs.Prelude.{◌≡◌};
 ghost use Rattle.ipdl_forms.specs.declared.fault.DocFault.TheVariants.{Memory};
 

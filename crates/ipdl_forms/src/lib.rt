@@ -1,22 +1,14 @@
-//! Documents: what their trees say.
+//! Documents: which trees spell one, the tests that a tree is to pass, and the laws that tie both.
 #![tactic(auto)]
 
-mod binders;
-mod counting;
 mod document;
-mod documents;
-mod earlier;
 mod fault;
 mod laws;
 mod lookup;
-mod names;
-mod reading;
-mod scope;
-mod seen;
 
 pub use document::{AssumeItem, Document, Item, ProtocolItem, TheoremItem};
-pub use documents::read_document;
 pub use fault::{DocFault, FormCause};
 pub use laws::{
-    document_is_read, one_document, one_term, outer_names, places_are_free, spelled_is_clean,
+    clean_is_spelled, document_is_read, first_fault_is_told, offsets_are_free, one_document,
+    one_term, outer_names, spelled_is_clean,
 };

@@ -1,3 +1,5 @@
+//! Looking up a protocol of a document by its name.
+
 ghost use Rattle.std.specs.Prelude.{◌≡◌, ◌↔◌, false, IsNone};
 ghost use Rattle.std.specs.Option.{option_copied};
 ghost use Rattle.ipdl_forms.specs.Earlier.{protocol_names};

@@ -6,12 +6,13 @@ use Rattle.std.proofs.lemmas.Bool.{false_from_ne_true}
 use Rattle.std.proofs.lemmas.Fmt.{decimal_injective}
 use Rattle.std.proofs.lemmas.Option.{slice_get-map, slice_get_cases}
 use Rattle.std.proofs.lemmas.Slice.Eq.{bytes_eq-Decides}
+use Rattle.ipdl_term.specs.Sizes.{greatest_printed_depth}
 use Rattle.ipdl_sig.specs.declared.symbol.Symbol.{Symbol}
 use Rattle.ipdl_sig.specs.Symbols.{names_of, AreNumbered}
 use Rattle.ipdl_forms.specs.Expressions.{symbol_named}
 use Rattle.ipdl_forms.specs.Operators.{Operand, operator_operands}
 use Rattle.ipdl_printing.specs.Printing.{binder_name, name_or_nothing, symbol_name}
-use Rattle.ipdl_forms.specs.Scopes.{Scope, place_among}
+use Rattle.ipdl_forms.specs.Scopes.{NameScope, binder_among}
 use Rattle.ipdl_roundtrip.specs.Shown.{AreNoOperators}
 
 -- ---- binders
@@ -22,7 +23,7 @@ binders_to zero = []
 binders_to (suc d) = binder_name d ∷ binders_to d
 
 -- where terms are printed, under so many binders
-abbrev pub printed_scope : List Symbol → ℕ → Scope
+abbrev pub printed_scope : List Symbol → ℕ → NameScope
 printed_scope symbols d = record { symbols = names_of symbols; binders = binders_to d; in_step = false }
 
 binder_name-injective : (m n : ℕ) → m < 2 ^ 64 → n < 2 ^ 64 → binder_name m ≡ binder_name n → m ≡ n
@@ -38,18 +39,18 @@ name_passed true n rest e f = cc
 name_passed false n rest e f = ap (option_map suc) f
 
 -- the name of a binder is found at the number of its variable
-pub place_among-binders_to : (d n k : ℕ) → suc (n + k) ≡ d → d ≤ 190 → place_among (binders_to d) (binder_name k) ≡ Some n
-place_among-binders_to zero n k at few = absurd (omega arith)
-place_among-binders_to (suc d) zero k at few =
+pub binder_among-binders_to : (d n k : ℕ) → suc (n + k) ≡ d → d ≤ greatest_printed_depth → binder_among (binders_to d) (binder_name k) ≡ Some n
+binder_among-binders_to zero n k at few = absurd (omega arith)
+binder_among-binders_to (suc d) zero k at few =
     let same : d ≡ k = omega arith in
-    name_found (bytes_eq (binder_name d) (binder_name k)) (option_map suc (place_among (binders_to d) (binder_name k)))
+    name_found (bytes_eq (binder_name d) (binder_name k)) (option_map suc (binder_among (binders_to d) (binder_name k)))
     ((bytes_eq-Decides (binder_name d) (binder_name k)).1 (ap binder_name same))
-place_among-binders_to (suc d) (suc n) k at few =
-    name_passed (bytes_eq (binder_name d) (binder_name k)) n (place_among (binders_to d) (binder_name k))
+binder_among-binders_to (suc d) (suc n) k at few =
+    name_passed (bytes_eq (binder_name d) (binder_name k)) n (binder_among (binders_to d) (binder_name k))
     (false_from_ne_true _ (λ equal.
     let same : d ≡ k = binder_name-injective d k (omega arith) (omega arith) ((bytes_eq-Decides (binder_name d) (binder_name k)).0 equal) in
     absurd (omega arith)))
-    (place_among-binders_to d n k (omega arith) (omega arith))
+    (binder_among-binders_to d n k (omega arith) (omega arith))
 
 -- ---- symbols
 
@@ -67,9 +68,13 @@ no_operator : (o : Option (List Operand)) (n : Option ℕ) → is_some o ≡ fal
 no_operator None n e = refl
 no_operator (Some parts) n e = cc
 
--- its printed name is that of its number
-pub symbol_named-printed : (symbols : List Symbol) (d f : ℕ) → f < length symbols → AreNoOperators symbols → AreNumbered symbols → symbol_named (printed_scope symbols d) (Some (symbol_name symbols f)) ≡ Some f
-symbol_named-printed symbols d f below names distinct =
+-- the first symbols of some are these
+pub record AreFirst (symbols all : List Symbol) : Type 0 where
+  pub each : (f : ℕ) → f < length symbols → slice_get all f ≡ slice_get symbols f
+
+-- its name, printed with others after it, is that of its number
+pub symbol_named-printed : (all symbols : List Symbol) (d f : ℕ) → AreFirst symbols all → f < length symbols → AreNoOperators symbols → AreNumbered symbols → symbol_named (printed_scope symbols d) (Some (symbol_name all f)) ≡ Some f
+symbol_named-printed all symbols d f first below names distinct =
     let there = symbol_there symbols f below in
-    ap (λ (name : List ℕ). symbol_named (printed_scope symbols d) (Some name)) (symbol_name-there symbols f there.0 there.1)
+    ap (λ (name : List ℕ). symbol_named (printed_scope symbols d) (Some name)) (symbol_name-there all f there.0 (first.each f below ∙ there.1))
     ∙ no_operator (operator_operands (there.0).name) _ (names f there.0 there.1) ∙ distinct f there.0 there.1

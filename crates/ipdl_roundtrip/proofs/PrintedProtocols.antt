@@ -3,16 +3,16 @@ use Rattle.std.proofs.Common.{◌≡◌, ℕ, suc, ◌≤◌, eqb, Bool, true, f
 use Rattle.std.proofs.lemmas.Bool.Decides.{nat_tests}
 use Rattle.ipdl_sig.specs.declared.symbol.Symbol.{Symbol}
 use Rattle.ipdl_sig.specs.Symbols.{AreNumbered}
-use Rattle.ipdl_term.specs.Sizes.{Spine, depth_in, no_spine, par_spine, new_spine}
+use Rattle.ipdl_term.specs.Sizes.{greatest_printed_depth, Spine, depth_in, no_spine, par_spine, new_spine}
 use Rattle.ipdl_term.specs.Terms.{Channel, Protocol, nil, assignment, parallel, hiding}
-use Rattle.ipdl_tree.specs.Trees.{Placed}
+use Rattle.ipdl_tree.specs.Trees.{Located}
 use Rattle.ipdl_tree.specs.Views.{forest}
 use Rattle.ipdl_forms.specs.Lists.{tree_count}
 use Rattle.ipdl_printing.specs.Printing.{printed_protocol, protocol_tree}
 use Rattle.ipdl_forms.specs.Protocols.{beside_first, under_first, SpellsProtocol}
 use Rattle.ipdl_roundtrip.specs.Shown.{AreNoOperators, HasNoOuter, HasSmallNumbers, IsShowable, shown_scope}
-use Rattle.ipdl_printing.specs.Within.{IsProtocolWithin}
-use Rattle.ipdl_roundtrip.proofs.PrintedNames.{printed_scope}
+use Rattle.ipdl_term.specs.Within.{IsProtocolWithin}
+use Rattle.ipdl_roundtrip.proofs.PrintedNames.{AreFirst, printed_scope}
 use Rattle.ipdl_roundtrip.proofs.PrintedReactions.{SpellsReaction-printed}
 
 -- ---- what stands beside the first part of a `par`, and under the first port of a `new`
@@ -24,7 +24,7 @@ parts-some symbols (assignment c r) = omega arith
 parts-some symbols (parallel p q) = omega arith
 parts-some symbols (hiding c w p) = omega arith
 
-other_branch : (a b : Placed) (test : Bool) → test ≡ false → (if test then a else b) ≡ b
+other_branch : (a b : Located) (test : Bool) → test ≡ false → (if test then a else b) ≡ b
 other_branch a b true e = cc
 other_branch a b false e = refl
 
@@ -68,23 +68,27 @@ depth_in-body new_spine c w p = omega arith
 -- ---- what is spelled
 
 -- in whatever the protocol stands
-SpellsProtocol-in : (symbols : List Symbol) (spine : Spine) (p : Protocol) → AreNoOperators symbols → AreNumbered symbols → depth_in spine p ≤ 190 → IsProtocolWithin (length symbols) p → HasNoOuter p → HasSmallNumbers p → SpellsProtocol (printed_scope symbols 0) p (protocol_tree symbols p)
-SpellsProtocol-in symbols spine nil names distinct few within no_outer small = (refl, refl)
-SpellsProtocol-in symbols spine (assignment c r) names distinct few within no_outer small =
-    ((refl, refl), refl, SpellsReaction-printed symbols 0 r names distinct (omega arith) within no_outer small)
-SpellsProtocol-in symbols spine (parallel p q) names distinct few within no_outer small = (
-  (refl, omega (arith, parts-some symbols q)),
-  SpellsProtocol-in symbols no_spine p names distinct (omega (arith, depth_in-left spine p q)) within.0 no_outer.0 small.0,
-  subst (λ (t : Placed). SpellsProtocol (printed_scope symbols 0) q t) (sym (beside_first-printed symbols p q))
-      (SpellsProtocol-in symbols par_spine q names distinct (omega (arith, depth_in-right spine p q)) within.1 no_outer.1 small.1),
+SpellsProtocol-in : (all symbols : List Symbol) (spine : Spine) (p : Protocol) → AreFirst symbols all → AreNoOperators symbols → AreNumbered symbols → depth_in spine p ≤ greatest_printed_depth → IsProtocolWithin (length symbols) p → HasNoOuter p → HasSmallNumbers p → SpellsProtocol (printed_scope symbols 0) p (protocol_tree all p)
+SpellsProtocol-in all symbols spine nil first names distinct few within no_outer small = (refl, refl)
+SpellsProtocol-in all symbols spine (assignment c r) first names distinct few within no_outer small =
+    ((refl, refl), refl, SpellsReaction-printed all symbols 0 r first names distinct (omega arith) within no_outer small)
+SpellsProtocol-in all symbols spine (parallel p q) first names distinct few within no_outer small = (
+  (refl, omega (arith, parts-some all q)),
+  SpellsProtocol-in all symbols no_spine p first names distinct (omega (arith, depth_in-left spine p q)) within.0 no_outer.0 small.0,
+  subst (λ (t : Located). SpellsProtocol (printed_scope symbols 0) q t) (sym (beside_first-printed all p q))
+      (SpellsProtocol-in all symbols par_spine q first names distinct (omega (arith, depth_in-right spine p q)) within.1 no_outer.1 small.1),
 )
-SpellsProtocol-in symbols spine (hiding c w p) names distinct few within no_outer small = (
+SpellsProtocol-in all symbols spine (hiding c w p) first names distinct few within no_outer small = (
   (refl, refl),
   (refl, refl, (refl, small.0)),
-  subst (λ (t : Placed). SpellsProtocol (printed_scope symbols 0) p t) (sym (under_first-printed symbols c w p))
-      (SpellsProtocol-in symbols new_spine p names distinct (omega (arith, depth_in-body spine c w p)) within no_outer small.1),
+  subst (λ (t : Located). SpellsProtocol (printed_scope symbols 0) p t) (sym (under_first-printed all c w p))
+      (SpellsProtocol-in all symbols new_spine p first names distinct (omega (arith, depth_in-body spine c w p)) within no_outer small.1),
 )
 
-pub SpellsProtocol-printed : (symbols : List Symbol) (p : Protocol) → IsShowable symbols p → SpellsProtocol (shown_scope symbols) p (protocol_tree symbols p)
-SpellsProtocol-printed symbols p showable =
-    SpellsProtocol-in symbols no_spine p showable.names showable.distinct showable.depth showable.within showable.no_outer showable.widths
+pub SpellsProtocol-printed : (all symbols : List Symbol) (p : Protocol) → AreFirst symbols all → IsShowable symbols p → SpellsProtocol (shown_scope symbols) p (protocol_tree all p)
+SpellsProtocol-printed all symbols p first showable =
+    SpellsProtocol-in all symbols no_spine p first showable.names showable.distinct showable.depth showable.within showable.no_outer showable.widths
+
+-- all symbols may be named
+pub SpellsProtocol-shown : (symbols : List Symbol) (p : Protocol) → IsShowable symbols p → SpellsProtocol (shown_scope symbols) p (protocol_tree symbols p)
+SpellsProtocol-shown symbols p showable = SpellsProtocol-printed symbols symbols p (record { each = λ f below. refl }) showable

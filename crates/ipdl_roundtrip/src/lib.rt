@@ -4,6 +4,5 @@
 mod laws;
 
 pub use laws::{
-    shown_is_read, shown_is_read_back, shown_is_well_formed, shown_item_is_read,
-    shown_item_is_read_back,
+    shown_document_is_read, shown_document_is_read_back, shown_is_read, shown_is_read_back,
 };

@@ -1,0 +1,9 @@
+pub mod RuleForms
+pub mod PairForms
+pub mod UseForms
+pub mod StepReading
+pub mod SeenNames
+pub mod ReadSymbols
+pub mod ReadInterfaces
+pub mod ReadItems
+pub mod ReadDocuments

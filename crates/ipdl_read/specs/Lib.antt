@@ -1,0 +1,4 @@
+pub mod Earlier
+pub mod Parts
+pub mod Rules
+pub mod Uses

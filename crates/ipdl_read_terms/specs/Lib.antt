@@ -1,0 +1,4 @@
+pub mod Binders
+pub mod Counts
+pub mod Lists
+pub mod Outcomes

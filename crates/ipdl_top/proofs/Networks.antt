@@ -1,6 +1,6 @@
 -- The protocol of a name among the items of a document.
-use Rattle.std.proofs.Common.{◌≡◌, ℕ, Bool, true, false, List, [], ◌∷◌, map, Option, Some, None, refl, ap, ◌∙◌, sym}
-use Rattle.std.specs.Prelude.{bytes_eq, if◌then◌else◌}
+use Rattle.std.proofs.Common.{◌≡◌, ℕ, Bool, true, false, List, [], ◌∷◌, map, Option, Some, refl, ap, ◌∙◌, sym}
+use Rattle.std.specs.Prelude.{bytes_eq, option_map, if◌then◌else◌}
 use Rattle.ipdl_sig.specs.declared.symbol.Symbol.{Symbol}
 use Rattle.ipdl_term.specs.Views.{protocol_of}
 use Rattle.ipdl_forms.specs.declared.document.Item.{Item}
@@ -8,17 +8,16 @@ use Rattle.ipdl_forms.specs.declared.document.Item.TheVariants as I
 use Rattle.ipdl_forms.specs.declared.document.ProtocolItem.{ProtocolItem}
 use Rattle.ipdl_forms.specs.Documents.{entry_of}
 use Rattle.ipdl_forms.specs.Lookups.{protocol_named}
-use Rattle.ipdl_top.specs.Lookups.{Network, no_network, network_named}
+use Rattle.ipdl_top.specs.Lookups.{Network, network_named}
 
-abbrev pub network_of : Option ProtocolItem → Network
-network_of None = no_network
-network_of (Some p) = record { interface = p.interface; body = protocol_of p.body }
+abbrev pub network_of : ProtocolItem → Network
+network_of p = record { interface = p.interface; body = protocol_of p.body }
 
-one_more : (b : Bool) (p : ProtocolItem) (rest : Network) (found : Option ProtocolItem) → rest ≡ network_of found → (if b then network_of (Some p) else rest) ≡ network_of (if b then Some p else found)
+one_more : (b : Bool) (p : ProtocolItem) (rest : Option Network) (found : Option ProtocolItem) → rest ≡ option_map network_of found → (if b then Some (network_of p) else rest) ≡ option_map network_of (if b then Some p else found)
 one_more true p rest found e = refl
 one_more false p rest found e = e
 
-pub network_named-items : (symbols : List Symbol) (items : List Item) (name : List ℕ) → network_named (map (entry_of symbols) items) name ≡ network_of (protocol_named items name)
+network_named-items : (symbols : List Symbol) (items : List Item) (name : List ℕ) → network_named (map (entry_of symbols) items) name ≡ option_map network_of (protocol_named items name)
 network_named-items symbols [] name = refl
 network_named-items symbols (I.Symbol n ∷ items) name = network_named-items symbols items name
 network_named-items symbols (I.Protocol p ∷ items) name =
@@ -27,5 +26,5 @@ network_named-items symbols (I.Assumption a ∷ items) name = network_named-item
 network_named-items symbols (I.Theorem t ∷ items) name = network_named-items symbols items name
 
 -- what was found among the items
-pub network_named-found : (symbols : List Symbol) (items : List Item) (name : List ℕ) (found : Option ProtocolItem) → found ≡ protocol_named items name → network_named (map (entry_of symbols) items) name ≡ network_of found
-network_named-found symbols items name found e = network_named-items symbols items name ∙ ap network_of (sym e)
+pub network_named-found : (symbols : List Symbol) (items : List Item) (name : List ℕ) (found : Option ProtocolItem) → found ≡ protocol_named items name → network_named (map (entry_of symbols) items) name ≡ option_map network_of found
+network_named-found symbols items name found e = network_named-items symbols items name ∙ ap (option_map network_of) (sym e)

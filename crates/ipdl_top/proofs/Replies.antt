@@ -1,34 +1,30 @@
--- The reply to words and bytes: there is one at most, and what it says of a document.
-use Rattle.std.proofs.Common.{◌≡◌, ℕ, ◌≤◌, nat_eq, Bool, false, List, [], ◌∷◌, length, Option, Some, None, refl, sym, ap, subst, ◌∙◌, inl, inr, arith}
-use Rattle.std.proofs.lemmas.Bool.{true≢false, false≢true}
+-- There is one reply to words and bytes, and what is accepted.
+use Rattle.std.proofs.Common.{◌≡◌, ℕ, ◌≤◌, List, length, Option, Some, None, sym, ap, subst, ◌∙◌, ◌⊎◌, inl, inr, arith}
 use Rattle.std.proofs.lemmas.Option.{same_Some}
-use Rattle.std.specs.Io.KnownBytes.{append_known, IsAtEnd}
-use Rattle.ipdl_tree.specs.Refusals.{Cause, bad_byte, bad_name, unclosed, extra, no_text, deep}
-use Rattle.ipdl_tree.specs.Spelling.{SpellsSource}
-use Rattle.ipdl_tree.specs.Trees.{Placed}
+use Rattle.ipdl_tree.specs.Refusals.{Cause}
+use Rattle.ipdl_tree.specs.Trees.{Located}
 use Rattle.ipdl_tree.proofs.Sources.{one_tree, not_refused-spelled}
 use Rattle.ipdl_forms.specs.Documents.{Document}
-use Rattle.ipdl_forms.specs.Faults.{first_fault}
+use Rattle.ipdl_forms.specs.Faults.{form_fault, over_fault, first_fault}
+use Rattle.ipdl_forms.specs.Items.{SpellsDocument, document_faults}
 use Rattle.ipdl_forms.proofs.CleanItems.{clean_document}
 use Rattle.ipdl_forms.proofs.OneItems.{one_document}
 use Rattle.ipdl_forms.specs.declared.fault.DocFault.{DocFault}
 use Rattle.ipdl_forms.specs.declared.fault.DocFault.TheVariants as F
-use Rattle.ipdl_top.specs.declared.command.Command.{Command}
-use Rattle.ipdl_top.specs.declared.command.Command.TheVariants.{Check, Types}
-use Rattle.ipdl_top.specs.declared.status.Status.{Status}
 use Rattle.ipdl_top.specs.declared.status.Status.TheVariants.{Accepted}
-use Rattle.ipdl_top.specs.Words.{command_words}
-use Rattle.ipdl_top.specs.Transfers.{source_limit, Took}
-use Rattle.ipdl_top.specs.Replies.{refusal_reply, document_fault_reply, IsFaulty, IsRead, IsIll, IsUnproved, IsAcceptable, accepted_text, IsReplyToDocument, IsReplyToTree, IsReplyWithin, IsReplyToBytes, IsReply}
-use Rattle.ipdl_top.specs.Runs.{IsReplied, IsAcceptedDocument}
-use Rattle.ipdl_top.specs.Scripts.{IsProvedDocument}
-use Rattle.ipdl_top.specs.Statuses.{Reply, reply_of}
+use Rattle.ipdl_top.specs.Refusals.{misformed, over_at_byte}
+use Rattle.ipdl_top.specs.Replies.{tree_refusal, IsUnspelled, IsMisformed, IsOverLimit, IsTree, IsRefusedWithin, IsRefusedSource, IsDocument, IsRequestRefusal, IsAnswer, IsIll, IsRefusedDocument, IsReplyBy, IsReplyTo, IsReply}
+use Rattle.ipdl_top.specs.Requests.{Request, check, types}
+use Rattle.ipdl_top.specs.Statuses.{wrong, bad, over, Kind, kind_status, Refusal, Reply, refused, accepted}
+use Rattle.ipdl_top.specs.Transfers.{source_limit}
 use Rattle.ipdl_top.specs.Typed.{IsTypedDocument}
-use Rattle.ipdl_top.proofs.ItemTypes.{first_item_refusal-typed}
-use Rattle.ipdl_top.proofs.Exchanges.{first_theorem_refusal-proved}
-use Rattle.ipdl_top.proofs.SourceStatuses.{IsRefusing, IsRefusing-ill, IsRefusing-unproved}
+use Rattle.ipdl_top.proofs.Checking.{check_is_owed}
+use Rattle.ipdl_top.proofs.ItemTypes.{type_refusal-typed}
+use Rattle.ipdl_top.proofs.Owed.{IsOwed}
+use Rattle.ipdl_top.proofs.Requests.{same_request}
+use Rattle.ipdl_top.proofs.Telling.{types_is_owed}
 
--- ---- there is one at most
+-- ---- choices
 
 none_and_some : {A : Type 0} {x : Option A} (y : A) → x ≡ None → x ≡ Some y → ⊥
 none_and_some y e f = cc
@@ -36,137 +32,118 @@ none_and_some y e f = cc
 same_value : {A : Type 0} {x : Option A} (y z : A) → x ≡ Some y → x ≡ Some z → y ≡ z
 same_value y z e f = same_Some y z (sym e ∙ f)
 
-ill_and_typed : (d : Document) (r : Reply) → IsIll d r → IsTypedDocument d → ⊥
-ill_and_typed d r ill typed = none_and_some r (first_item_refusal-typed d.symbols d.entries d.entries typed) ill
+-- what refuses is no text
+pub refused_not_accepted : (kind : Kind) → kind_status kind ≡ Accepted → ⊥
+refused_not_accepted wrong e = cc
+refused_not_accepted bad e = cc
+refused_not_accepted over e = cc
 
-unproved_and_proved : (d : Document) (t : Placed) (r : Reply) → IsUnproved d t r → IsProvedDocument d → ⊥
-unproved_and_proved d t r unproved proved = none_and_some r (first_theorem_refusal-proved d.symbols d.entries t 0 0 d.entries proved) unproved
+-- ---- a source has one refusal at most, and then no document
 
-one_reply_to_document : (command : Command) (d : Document) (t : Placed) (r s : Reply) → IsReplyToDocument command d t r → IsReplyToDocument command d t s → r ≡ s
-one_reply_to_document Check d t r s (inl ill) (inl ill') = same_value r s ill ill'
-one_reply_to_document Check d t r s (inl ill) (inr (inl unproved)) = absurd (ill_and_typed d r ill unproved.0)
-one_reply_to_document Check d t r s (inl ill) (inr (inr settled)) = absurd (ill_and_typed d r ill settled.0.0)
-one_reply_to_document Check d t r s (inr (inl unproved)) (inl ill) = absurd (ill_and_typed d s ill unproved.0)
-one_reply_to_document Check d t r s (inr (inr settled)) (inl ill) = absurd (ill_and_typed d s ill settled.0.0)
-one_reply_to_document Check d t r s (inr (inl unproved)) (inr (inl unproved')) = same_value r s unproved.1 unproved'.1
-one_reply_to_document Check d t r s (inr (inl unproved)) (inr (inr settled)) = absurd (unproved_and_proved d t r unproved.1 settled.0.1)
-one_reply_to_document Check d t r s (inr (inr settled)) (inr (inl unproved)) = absurd (unproved_and_proved d t s unproved.1 settled.0.1)
-one_reply_to_document Check d t r s (inr (inr settled)) (inr (inr settled')) = settled.1 ∙ sym settled'.1
-one_reply_to_document Types d t r s (inl ill) (inl ill') = same_value r s ill ill'
-one_reply_to_document Types d t r s (inl ill) (inr settled) = absurd (ill_and_typed d r ill settled.0)
-one_reply_to_document Types d t r s (inr settled) (inl ill) = absurd (ill_and_typed d s ill settled.0)
-one_reply_to_document Types d t r s (inr settled) (inr settled') = settled.1 ∙ sym settled'.1
+one_unspelled : (bytes : List ℕ) (r s : Refusal) → IsUnspelled bytes r → IsUnspelled bytes s → r ≡ s
+one_unspelled bytes r s (offset, cause, e, is) (offset', cause', e', is') =
+    is ∙ ap (λ (c : ℕ × Cause). tree_refusal c.0 c.1) (same_value (offset, cause) (offset', cause') e e') ∙ sym is'
 
-faulty_and_read : (d : Document) (t : Placed) (r : Reply) → IsFaulty t r → IsRead d t → ⊥
-faulty_and_read d t r faulty read = none_and_some faulty.0 (ap first_fault (clean_document d t read.spelled read.within)) faulty.1
+pub unspelled_and_tree : (bytes : List ℕ) (r : Refusal) (t : Located) → IsUnspelled bytes r → IsTree t bytes → ⊥
+unspelled_and_tree bytes r t (offset, cause, e, is) tree =
+    none_and_some (offset, cause) (not_refused-spelled bytes t tree.spelled tree.shallow) e
 
-one_reply_to_tree : (command : Command) (t : Placed) (r s : Reply) → IsReplyToTree command t r → IsReplyToTree command t s → r ≡ s
-one_reply_to_tree command t r s (inl faulty) (inl faulty') =
-    faulty.2 ∙ ap document_fault_reply (same_value faulty.0 faulty'.0 faulty.1 faulty'.1) ∙ sym faulty'.2
-one_reply_to_tree command t r s (inl faulty) (inr (d, read, reply)) = absurd (faulty_and_read d t r faulty read)
-one_reply_to_tree command t r s (inr (d, read, reply)) (inl faulty) = absurd (faulty_and_read d t s faulty read)
-one_reply_to_tree command t r s (inr (d, read, reply)) (inr (d', read', reply')) =
-    one_reply_to_document command d t r s reply
-    (subst (λ e. IsReplyToDocument command e t s) (sym (one_document d d' t read.spelled read'.spelled)) reply')
+-- the refusal of a fault
+abbrev refusal_of_fault : DocFault → Option Refusal
+refusal_of_fault (F.Form pos cause) = Some (misformed pos.0 cause)
+refusal_of_fault (F.Over limit pos) = Some (over_at_byte limit pos.0)
+refusal_of_fault F.Memory = None
 
-one_reply_within : (command : Command) (bytes : List ℕ) (r s : Reply) → IsReplyWithin command bytes r → IsReplyWithin command bytes s → r ≡ s
-one_reply_within command bytes r s (inl refused) (inl refused') =
-    refused.2 ∙ ap (λ (c : ℕ × Cause). refusal_reply c.0 c.1) (same_value refused.0 refused'.0 refused.1 refused'.1) ∙ sym refused'.2
-one_reply_within command bytes r s (inl refused) (inr (t, none, spells, reply)) = absurd (none_and_some refused.0 none refused.1)
-one_reply_within command bytes r s (inr (t, none, spells, reply)) (inl refused) = absurd (none_and_some refused.0 none refused.1)
-one_reply_within command bytes r s (inr (t, none, spells, reply)) (inr (u, none', spells', reply')) =
-    one_reply_to_tree command t r s reply (subst (λ v. IsReplyToTree command v s) (sym (one_tree t u bytes spells spells')) reply')
+-- a tree that is refused by its first fault
+abbrev IsFaulty : Located → Refusal → Type 0
+IsFaulty t r = (fault : DocFault) × (first_fault (document_faults t) ≡ Some fault) × (refusal_of_fault fault ≡ Some r)
 
-one_reply_to_bytes : (command : Command) (bytes : List ℕ) (r s : Reply) → IsReplyToBytes command bytes r → IsReplyToBytes command bytes s → r ≡ s
-one_reply_to_bytes command bytes r s (inl over) (inl over') = over.1 ∙ sym over'.1
-one_reply_to_bytes command bytes r s (inl over) (inr within) = absurd (omega (arith, over.0, within.0))
-one_reply_to_bytes command bytes r s (inr within) (inl over) = absurd (omega (arith, over.0, within.0))
-one_reply_to_bytes command bytes r s (inr within) (inr within') = one_reply_within command bytes r s within.1 within'.1
+faulty : (t : Located) (r : Refusal) → IsMisformed t r ⊎ IsOverLimit t r → IsFaulty t r
+faulty t r (inl (offset, cause, e, is)) = (form_fault cause offset, e, ap Some (sym is))
+faulty t r (inr (offset, limit, e, is)) = (over_fault limit offset, e, ap Some (sym is))
 
--- whether the first word begins with a `c`, as that of `check` alone does
-abbrev begins_with_c : List (List ℕ) → Bool
-begins_with_c [] = false
-begins_with_c ([] ∷ words) = false
-begins_with_c ((first ∷ bytes) ∷ words) = nat_eq first 99
+one_faulty : (t : Located) (r s : Refusal) → IsFaulty t r → IsFaulty t s → r ≡ s
+one_faulty t r s (f, e, is) (g, e', is') =
+    same_Some r s (sym is ∙ ap refusal_of_fault (same_value f g e e') ∙ is')
 
--- no two commands have one word
-one_command : (c d : Command) → command_words c ≡ command_words d → c ≡ d
-one_command Check Check e = refl
-one_command Check Types e = absurd (true≢false (ap begins_with_c e))
-one_command Types Check e = absurd (false≢true (ap begins_with_c e))
-one_command Types Types e = refl
+one_refusal_within : (bytes : List ℕ) (r s : Refusal) → IsRefusedWithin bytes r → IsRefusedWithin bytes s → r ≡ s
+one_refusal_within bytes r s (inl un) (inl un') = one_unspelled bytes r s un un'
+one_refusal_within bytes r s (inl un) (inr (t, tree, fault)) = absurd (unspelled_and_tree bytes r t un tree)
+one_refusal_within bytes r s (inr (t, tree, fault)) (inl un) = absurd (unspelled_and_tree bytes s t un tree)
+one_refusal_within bytes r s (inr (t, tree, fault)) (inr (u, tree', fault')) =
+    one_faulty t r s (faulty t r fault)
+    (subst (λ v. IsFaulty v s) (sym (one_tree t u bytes tree.spelled tree'.spelled)) (faulty u s fault'))
+
+one_refused_source : (bytes : List ℕ) (r s : Refusal) → IsRefusedSource bytes r → IsRefusedSource bytes s → r ≡ s
+one_refused_source bytes r s (inl long) (inl long') = long.1 ∙ sym long'.1
+one_refused_source bytes r s (inl long) (inr within) = absurd (omega (arith, long.0, within.0))
+one_refused_source bytes r s (inr within) (inl long) = absurd (omega (arith, long.0, within.0))
+one_refused_source bytes r s (inr within) (inr within') = one_refusal_within bytes r s within.1 within'.1
+
+faulty_and_document : (d : Document) (t u : Located) (bytes : List ℕ) (r : Refusal) → IsFaulty u r → t ≡ u → IsDocument d t bytes → ⊥
+faulty_and_document d t u bytes r (fault, e, is) same document =
+    none_and_some fault (ap first_fault (ap document_faults (sym same) ∙ clean_document d t document.spelled document.within)) e
+
+within_and_document : (d : Document) (t : Located) (bytes : List ℕ) (r : Refusal) → IsRefusedWithin bytes r → IsDocument d t bytes → ⊥
+within_and_document d t bytes r (inl un) document = unspelled_and_tree bytes r t un document.tree
+within_and_document d t bytes r (inr (u, tree, fault)) document =
+    faulty_and_document d t u bytes r (faulty u r fault) (one_tree t u bytes document.tree.spelled tree.spelled) document
+
+source_and_document : (d : Document) (t : Located) (bytes : List ℕ) (r : Refusal) → IsRefusedSource bytes r → length bytes ≤ source_limit → IsDocument d t bytes → ⊥
+source_and_document d t bytes r (inl long) few document = omega (arith, long.0, few)
+source_and_document d t bytes r (inr within) few document = within_and_document d t bytes r within.1 document
+
+-- ---- a document has one reply at most
+
+pub request_is_owed : (request : Request) (d : Document) (t : Located) → IsOwed (IsRequestRefusal request d t) (IsAnswer request d)
+request_is_owed check d t = check_is_owed d t
+request_is_owed types d t = types_is_owed d t
+
+typed_answer : (request : Request) (d : Document) (text : List ℕ) → IsAnswer request d text → IsTypedDocument d
+typed_answer check d text answer = answer.typed
+typed_answer types d text answer = answer.typed
+
+ill_and_typed : (d : Document) (r : Refusal) → IsIll d r → IsTypedDocument d → ⊥
+ill_and_typed d r ill typed = none_and_some r (type_refusal-typed d typed) ill
+
+one_refused_document : (request : Request) (d : Document) (t : Located) (r s : Refusal) → IsRefusedDocument request d t r → IsRefusedDocument request d t s → r ≡ s
+one_refused_document request d t r s (inl ill) (inl ill') = same_value r s ill ill'
+one_refused_document request d t r s (inl ill) (inr (typed, refuses)) = absurd (ill_and_typed d r ill typed)
+one_refused_document request d t r s (inr (typed, refuses)) (inl ill) = absurd (ill_and_typed d s ill typed)
+one_refused_document request d t r s (inr (typed, refuses)) (inr (typed', refuses')) =
+    (request_is_owed request d t).one_refusal r s refuses refuses'
+
+refused_and_answered : (request : Request) (d : Document) (t : Located) (r : Refusal) (text : List ℕ) → IsRefusedDocument request d t r → IsAnswer request d text → ⊥
+refused_and_answered request d t r text (inl ill) answer = ill_and_typed d r ill (typed_answer request d text answer)
+refused_and_answered request d t r text (inr (typed, refuses)) answer = (request_is_owed request d t).not_both r text refuses answer
+
+one_reply_by : (request : Request) (d : Document) (t : Located) (r s : Reply) → IsReplyBy (IsRefusedDocument request d t) (IsAnswer request d) r → IsReplyBy (IsRefusedDocument request d t) (IsAnswer request d) s → r ≡ s
+one_reply_by request d t r s (inl (a, refuses, is)) (inl (b, refuses', is')) =
+    is ∙ ap refused (one_refused_document request d t a b refuses refuses') ∙ sym is'
+one_reply_by request d t r s (inl (a, refuses, is)) (inr (text, answers, is')) = absurd (refused_and_answered request d t a text refuses answers)
+one_reply_by request d t r s (inr (text, answers, is)) (inl (b, refuses, is')) = absurd (refused_and_answered request d t b text refuses answers)
+one_reply_by request d t r s (inr (text, answers, is)) (inr (other, answers', is')) =
+    is ∙ ap accepted ((request_is_owed request d t).one_text text other answers answers') ∙ sym is'
+
+-- what is spelled is one tree and one document
+one_document_of : (request : Request) (d e : Document) (t u : Located) (bytes : List ℕ) (s : Reply) → IsDocument d t bytes → IsDocument e u bytes → IsReplyBy (IsRefusedDocument request e u) (IsAnswer request e) s → IsReplyBy (IsRefusedDocument request d t) (IsAnswer request d) s
+one_document_of request d e t u bytes s document document' reply =
+    let trees : u ≡ t = one_tree u t bytes document'.tree.spelled document.tree.spelled in
+    let documents : e ≡ d = one_document e d t (subst (λ v. SpellsDocument e v) trees document'.spelled) document.spelled in
+    subst (λ f. IsReplyBy (IsRefusedDocument request f t) (IsAnswer request f) s) documents
+    (subst (λ v. IsReplyBy (IsRefusedDocument request e v) (IsAnswer request e) s) trees reply)
+
+one_reply_to : (request : Request) (bytes : List ℕ) (r s : Reply) → IsReplyTo request bytes r → IsReplyTo request bytes s → r ≡ s
+one_reply_to request bytes r s (inl (a, refuses, is)) (inl (b, refuses', is')) =
+    is ∙ ap refused (one_refused_source bytes a b refuses refuses') ∙ sym is'
+one_reply_to request bytes r s (inl (a, refuses, is)) (inr (few, (t, d, document, reply))) = absurd (source_and_document d t bytes a refuses few document)
+one_reply_to request bytes r s (inr (few, (t, d, document, reply))) (inl (b, refuses, is)) = absurd (source_and_document d t bytes b refuses few document)
+one_reply_to request bytes r s (inr (few, (t, d, document, reply))) (inr (few', (u, e, document', reply'))) =
+    one_reply_by request d t r s reply (one_document_of request d e t u bytes s document document' reply')
 
 pub one_reply : (words : List (List ℕ)) (bytes : List ℕ) (r s : Reply) → IsReply words bytes r → IsReply words bytes s → r ≡ s
 one_reply words bytes r s (inl usage) (inl usage') = usage.1 ∙ sym usage'.1
 one_reply words bytes r s (inl usage) (inr (c, form, reply)) = absurd (usage.0 c form)
 one_reply words bytes r s (inr (c, form, reply)) (inl usage) = absurd (usage.0 c form)
 one_reply words bytes r s (inr (c, form, reply)) (inr (c', form', reply')) =
-    one_reply_to_bytes c bytes r s reply
-    (subst (λ d. IsReplyToBytes d bytes s) (sym (one_command c c' (sym form ∙ form'))) reply')
-
--- ---- what is accepted
-
--- the document of an accepted reply
-abbrev pub IsAcceptedReply : Command → List ℕ → Reply → Type 0
-IsAcceptedReply command bytes r =
-    (t : Placed) × (d : Document) × SpellsSource t bytes × IsRead d t × IsAcceptable command d
-    × (r.text ≡ accepted_text command d)
-
-refusal_not_accepted : (offset : ℕ) (cause : Cause) → (refusal_reply offset cause).status ≡ Accepted → ⊥
-refusal_not_accepted offset bad_byte e = cc
-refusal_not_accepted offset bad_name e = cc
-refusal_not_accepted offset unclosed e = cc
-refusal_not_accepted offset extra e = cc
-refusal_not_accepted offset no_text e = cc
-refusal_not_accepted offset deep e = cc
-
-fault_not_accepted : (fault : DocFault) → (document_fault_reply fault).status ≡ Accepted → ⊥
-fault_not_accepted (F.Form pos cause) e = cc
-fault_not_accepted (F.Over limit pos) e = cc
-fault_not_accepted F.Memory e = cc
-
-status_of : {r s : Reply} → r ≡ s → r.status ≡ Accepted → s.status ≡ Accepted
-status_of e accepted = sym (ap (λ (x : Reply). x.status) e) ∙ accepted
-
-accepted_document : (command : Command) (bytes : List ℕ) (t : Placed) (d : Document) (r : Reply) → SpellsSource t bytes → IsRead d t → IsReplyToDocument command d t r → r.status ≡ Accepted → IsAcceptedReply command bytes r
-accepted_document Check bytes t d r spells read (inl ill) e = absurd (subst IsRefusing e (IsRefusing-ill d r ill))
-accepted_document Check bytes t d r spells read (inr (inl unproved)) e = absurd (subst IsRefusing e (IsRefusing-unproved d t r unproved.1))
-accepted_document Check bytes t d r spells read (inr (inr settled)) e =
-    (t, d, spells, read, settled.0, ap (λ (x : Reply). x.text) settled.1)
-accepted_document Types bytes t d r spells read (inl ill) e = absurd (subst IsRefusing e (IsRefusing-ill d r ill))
-accepted_document Types bytes t d r spells read (inr settled) e =
-    (t, d, spells, read, settled.0, ap (λ (x : Reply). x.text) settled.1)
-
-accepted_reply : (command : Command) (words : List (List ℕ)) (bytes : List ℕ) (r : Reply) → words ≡ command_words command → IsReply words bytes r → r.status ≡ Accepted → IsAcceptedReply command bytes r
-accepted_reply command words bytes r form (inl usage) e = absurd (cc (usage.1))
-accepted_reply command words bytes r form (inr (c, form', inl over)) e = absurd (cc (over.1))
-accepted_reply command words bytes r form (inr (c, form', inr (within, inl refused))) e = absurd (refusal_not_accepted _ _ (status_of refused.2 e))
-accepted_reply command words bytes r form (inr (c, form', inr (within, inr (t, none, spells, inl faulty)))) e = absurd (fault_not_accepted _ (status_of faulty.2 e))
-accepted_reply command words bytes r form (inr (c, form', inr (within, inr (t, none, spells, inr (d, read, reply))))) e =
-    subst (λ k. IsAcceptedReply k bytes r) (one_command c command (sym form' ∙ form)) (accepted_document c bytes t d r spells read reply e)
-
-pub IsAcceptedDocument-replied : (command : Command) (words : List (List ℕ)) (result : Status) (left left' taken taken' : Option (List ℕ)) → words ≡ command_words command → IsAtEnd left' → IsReplied words result left taken taken' → result ≡ Accepted → IsAcceptedDocument command left left' taken taken'
-IsAcceptedDocument-replied command words result left left' taken taken' form at_end replied accepted = (
-  at_end,
-  λ bytes e.
-      let reply = replied bytes e in
-      let found = accepted_reply command words bytes reply.0 form reply.1 (sym reply.2 ∙ accepted) in
-      (found.0, found.1, found.2, found.3, found.4, reply.3 ∙ ap (append_known taken) found.5),
-)
-
--- ---- what is to be accepted
-
-reply_to_document : (command : Command) (d : Document) (t : Placed) → IsAcceptable command d → IsReplyToDocument command d t (reply_of Accepted (accepted_text command d))
-reply_to_document Check d t acceptable = inr (inr (acceptable, refl))
-reply_to_document Types d t acceptable = inr (acceptable, refl)
-
-reply_to_acceptable : (command : Command) (words : List (List ℕ)) (bytes : List ℕ) (t : Placed) (d : Document) → SpellsSource t bytes → IsRead d t → IsAcceptable command d → length bytes ≤ source_limit → words ≡ command_words command → IsReply words bytes (reply_of Accepted (accepted_text command d))
-reply_to_acceptable command words bytes t d spells read acceptable within form =
-    inr (command, form, inr (within, inr (t, not_refused-spelled bytes t spells read.shallow, spells, inr (d, read, reply_to_document command d t acceptable))))
-
-pub accepted_where_acceptable : (command : Command) (words : List (List ℕ)) (bytes : List ℕ) (t : Placed) (d : Document) (result : Status) (left taken taken' : Option (List ℕ)) → SpellsSource t bytes → IsRead d t → IsAcceptable command d → length bytes ≤ source_limit → words ≡ command_words command → left ≡ Some bytes → IsReplied words result left taken taken' → (result ≡ Accepted) × Took taken taken' (accepted_text command d)
-accepted_where_acceptable command words bytes t d result left taken taken' spells read acceptable within form e replied =
-    let reply = replied bytes e in
-    let one : reply.0 ≡ reply_of Accepted (accepted_text command d) =
-    one_reply words bytes reply.0 (reply_of Accepted (accepted_text command d)) reply.1 (reply_to_acceptable command words bytes t d spells read acceptable within form) in
-    (reply.2 ∙ ap (λ (x : Reply). x.status) one, reply.3 ∙ ap (λ (x : Reply). append_known taken x.text) one)
+    one_reply_to c bytes r s reply (subst (λ d. IsReplyTo d bytes s) (sym (same_request c c' (sym form ∙ form'))) reply')

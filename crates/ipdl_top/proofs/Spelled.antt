@@ -3,7 +3,7 @@ use Rattle.std.proofs.Common.{◌≡◌, ℕ, suc, ◌+◌, ◌<◌, ◌≤◌, 
 use Rattle.std.specs.Prelude.{bytes_eq, is_none, option_map, if◌then◌else◌}
 use Rattle.std.proofs.lemmas.List.Quantifiers.{position-Some}
 use Rattle.ipdl_term.specs.Terms.{Expression, literal, variable, outer, application, exclusive, conjunction, negation, concatenation, segment, equality, selection, Reaction, returning, flipping, reading, branching, binding, Protocol, nil, assignment, parallel, hiding}
-use Rattle.ipdl_tree.specs.Trees.{Placed, Forest, no_trees, tree}
+use Rattle.ipdl_tree.specs.Trees.{Located, Forest, no_trees, tree}
 use Rattle.ipdl_tree.specs.Trees as Trees
 use Rattle.ipdl_forms.specs.Documents.{Document, Entry, symbol_entry, protocol_entry, assumption_entry, theorem_entry, symbols_in}
 use Rattle.ipdl_forms.specs.Expressions.{SpellsExpression, symbol_named}
@@ -12,33 +12,33 @@ use Rattle.ipdl_forms.specs.Lists.{name_in, operand, head_of}
 use Rattle.ipdl_forms.specs.Operators.{operator_operands}
 use Rattle.ipdl_forms.specs.Protocols.{SpellsProtocol, beside_first, under_first}
 use Rattle.ipdl_forms.specs.Reactions.{SpellsReaction}
-use Rattle.ipdl_forms.specs.Scopes.{Scope, under_binder, place_among, symbol_number, bound_variable}
+use Rattle.ipdl_forms.specs.Scopes.{NameScope, under_binder, binder_among, symbol_number, bound_variable}
 use Rattle.ipdl_forms.specs.Steps.{Earlier}
-use Rattle.ipdl_printing.specs.Within.{IsExpressionWithin, IsReactionWithin, IsProtocolWithin}
+use Rattle.ipdl_term.specs.Within.{IsExpressionWithin, IsReactionWithin, IsProtocolWithin}
 use Rattle.ipdl_top.specs.Lookups.{HasBodiesWithin}
 
 -- ---- names
 
 -- a name that stands among others stands at a place below their number
-place_among-below : (names : List (List ℕ)) (name : List ℕ) (n : ℕ) → place_among names name ≡ Some n → n < length names
-place_among-below [] name n e = cc
-place_among-below (other ∷ names) name n e = by_test (bytes_eq other name) (place_among names name) (place_among-below names name) e
+binder_among-below : (names : List (List ℕ)) (name : List ℕ) (n : ℕ) → binder_among names name ≡ Some n → n < length names
+binder_among-below [] name n e = cc
+binder_among-below (other ∷ names) name n e = by_test (bytes_eq other name) (binder_among names name) (binder_among-below names name) e
   where
     by_test : (b : Bool) (found : Option ℕ) → ((m : ℕ) → found ≡ Some m → m < length names) → (if b then Some 0 else option_map suc found) ≡ Some n → n < suc (length names)
     by_test true found ih e = let zero : 0 ≡ n = cc in omega arith
     by_test false None ih e = cc
     by_test false (Some m) ih e = let below : m < length names = ih m refl in let more : suc m ≡ n = cc in omega arith
 
-bound_variable-below : (scope : Scope) (t : Placed) (n : ℕ) → bound_variable scope t ≡ Some n → n < length scope.binders
-bound_variable-below scope (Trees.word pos name) n e = place_among-below scope.binders name n e
+bound_variable-below : (scope : NameScope) (t : Located) (n : ℕ) → bound_variable scope t ≡ Some n → n < length scope.binders
+bound_variable-below scope (Trees.word pos name) n e = binder_among-below scope.binders name n e
 bound_variable-below scope (Trees.number pos k) n e = cc
 bound_variable-below scope (Trees.literal pos bits) n e = cc
 bound_variable-below scope (Trees.group pos ts) n e = cc
 
-symbol_number-below : (scope : Scope) (name : List ℕ) (f : ℕ) → symbol_number scope name ≡ Some f → f < length scope.symbols
+symbol_number-below : (scope : NameScope) (name : List ℕ) (f : ℕ) → symbol_number scope name ≡ Some f → f < length scope.symbols
 symbol_number-below scope name f e = (position-Some (bytes_eq name) scope.symbols f name e).0
 
-symbol_named-below : (scope : Scope) (head : Option (List ℕ)) (f : ℕ) → symbol_named scope head ≡ Some f → f < length scope.symbols
+symbol_named-below : (scope : NameScope) (head : Option (List ℕ)) (f : ℕ) → symbol_named scope head ≡ Some f → f < length scope.symbols
 symbol_named-below scope None f e = cc
 symbol_named-below scope (Some name) f e = by_test (is_none (operator_operands name)) e
   where
@@ -48,7 +48,7 @@ symbol_named-below scope (Some name) f e = by_test (is_none (operator_operands n
 
 -- ---- terms
 
-IsExpressionWithin-spelled : (scope : Scope) (e : Expression) (t : Placed) → SpellsExpression scope e t → IsExpressionWithin (length scope.symbols) (length scope.binders) e
+IsExpressionWithin-spelled : (scope : NameScope) (e : Expression) (t : Located) → SpellsExpression scope e t → IsExpressionWithin (length scope.symbols) (length scope.binders) e
 IsExpressionWithin-spelled scope (literal bits) t spells = tt
 IsExpressionWithin-spelled scope (variable n) t spells = bound_variable-below scope t n spells
 IsExpressionWithin-spelled scope (outer n) t spells = tt
@@ -70,7 +70,7 @@ IsExpressionWithin-spelled scope (selection c a b) t spells = (
   IsExpressionWithin-spelled scope b (operand 2 t) spells.3,
 )
 
-IsReactionWithin-spelled : (scope : Scope) (r : Reaction) (t : Placed) → SpellsReaction scope r t → IsReactionWithin (length scope.symbols) (length scope.binders) r
+IsReactionWithin-spelled : (scope : NameScope) (r : Reaction) (t : Located) → SpellsReaction scope r t → IsReactionWithin (length scope.symbols) (length scope.binders) r
 IsReactionWithin-spelled scope (returning e) t spells = IsExpressionWithin-spelled scope e (operand 0 t) spells.1
 IsReactionWithin-spelled scope (flipping w) t spells = tt
 IsReactionWithin-spelled scope (reading c) t spells = tt
@@ -86,7 +86,7 @@ IsReactionWithin-spelled scope (binding w r s) t spells = (
 )
 
 -- a protocol that is spelled where no binder is around may be printed
-pub IsProtocolWithin-spelled : (scope : Scope) (p : Protocol) (t : Placed) → scope.binders ≡ [] → SpellsProtocol scope p t → IsProtocolWithin (length scope.symbols) p
+pub IsProtocolWithin-spelled : (scope : NameScope) (p : Protocol) (t : Located) → scope.binders ≡ [] → SpellsProtocol scope p t → IsProtocolWithin (length scope.symbols) p
 IsProtocolWithin-spelled scope nil t none spells = tt
 IsProtocolWithin-spelled scope (assignment c r) t none spells =
     subst (λ (binders : List (List ℕ)). IsReactionWithin (length scope.symbols) (length binders) r) none
@@ -159,7 +159,7 @@ HasBodiesWithin-entries earlier (theorem_entry name left right lefts rights ∷ 
     HasBodiesWithin-entries (earlier_with (theorem_entry name left right lefts rights) earlier) entries ts spelled.1
 
 -- the bodies of a document that is spelled may be printed
-pub HasBodiesWithin-spelled : (d : Document) (t : Placed) → SpellsDocument d t → HasBodiesWithin (length d.symbols) d.entries
+pub HasBodiesWithin-spelled : (d : Document) (t : Located) → SpellsDocument d t → HasBodiesWithin (length d.symbols) d.entries
 HasBodiesWithin-spelled d t spelled =
     let count : 0 + length (symbols_in d.entries) ≡ length d.symbols = omega (arith, ap length spelled.4) in
     subst (λ count. HasBodiesWithin count d.entries) count (HasBodiesWithin-entries nothing_earlier d.entries _ spelled.3)

@@ -1,14 +1,14 @@
 -- The chains of a document, and the text of them.
-use Rattle.std.specs.Prelude.{ℕ, suc, List, [], ◌∷◌, ◌++◌, codes}
+use Rattle.std.specs.Prelude.{ℕ, suc, List, [], ◌∷◌, ◌++◌, codes, Option, Some, None}
 use Rattle.std.specs.Fmt.{decimal}
 use Rattle.ipdl_sig.specs.declared.symbol.Symbol.{Symbol}
 use Rattle.ipdl_term.specs.Terms.{Protocol}
 use Rattle.ipdl_tree.specs.Spelling.{tree_text}
 use Rattle.ipdl_forms.specs.Documents.{Document, Entry, symbol_entry, protocol_entry, assumption_entry, theorem_entry}
 use Rattle.ipdl_printing.specs.Printing.{protocol_tree}
-use Rattle.ipdl_top.specs.Words.{line, spaced}
+use Rattle.ipdl_printing.specs.Texts.{line, spaced}
 use Rattle.ipdl_top.specs.Ends.{exchanged}
-use Rattle.ipdl_top.specs.Lookups.{body_named}
+use Rattle.ipdl_top.specs.Lookups.{Network, network_named}
 
 -- the line that begins a chain
 abbrev pub theorem_line : (theorem left right : List ℕ) → List ℕ
@@ -32,10 +32,16 @@ chain_text symbols theorem left right body =
     theorem_line theorem left right ++ term_line symbols 0 body ++ exchange_line ++ term_line symbols 1 (exchanged body)
     ++ exact_line
 
+-- the chain of a theorem between two protocols that are there
+abbrev pub chain_between : List Symbol → (theorem left right : List ℕ) → (from to : Option Network) → List ℕ
+chain_between symbols theorem left right (Some from) (Some to) = chain_text symbols theorem left right from.body
+chain_between symbols theorem left right (Some from) None = []
+chain_between symbols theorem left right None to = []
+
 -- the chain of an item, none of what is no theorem
 abbrev pub item_text : List Symbol → List Entry → Entry → List ℕ
 item_text symbols entries (theorem_entry name left right lefts rights) =
-    chain_text symbols name left right (body_named entries left)
+    chain_between symbols name left right (network_named entries left) (network_named entries right)
 item_text symbols entries _ = []
 
 abbrev pub items_text : List Symbol → List Entry → List Entry → List ℕ
@@ -54,7 +60,10 @@ abbrev pub accepted_line : (theorems neighbours : ℕ) → List ℕ
 accepted_line theorems neighbours =
     line (spaced (codes "accepted theorems" ∷ decimal theorems ∷ codes "neighbours" ∷ decimal neighbours ∷ []))
 
--- all chains in order, and the last line: each theorem has one neighbour
+-- all chains in order
+abbrev pub chains_text : Document → List ℕ
+chains_text d = items_text d.symbols d.entries d.entries
+
+-- all chains, and the last line: each theorem has one neighbour
 unfoldable pub proved_text : Document → List ℕ
-proved_text d =
-    items_text d.symbols d.entries d.entries ++ accepted_line (theorem_count d.entries) (theorem_count d.entries)
+proved_text d = chains_text d ++ accepted_line (theorem_count d.entries) (theorem_count d.entries)

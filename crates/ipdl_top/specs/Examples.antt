@@ -1,9 +1,11 @@
 -- The worked example: two channels of constant value, exchanged.
 use Rattle.std.specs.Prelude.{ℕ, Bool, true, false, List, [], ◌∷◌, codes}
 use Rattle.ipdl_term.specs.declared.interface.Port.{Port}
+use Rattle.ipdl_term.specs.Rules.{comm}
+use Rattle.ipdl_term.specs.Steps.{plain}
 use Rattle.ipdl_term.specs.Terms.{Protocol, literal, returning, assignment, parallel}
-use Rattle.ipdl_tree.specs.Trees.{Placed, word, number, group, no_trees}
-use Rattle.ipdl_forms.specs.Documents.{Document, Entry, protocol_entry, theorem_entry, forward}
+use Rattle.ipdl_tree.specs.Trees.{Located, word, number, group, no_trees}
+use Rattle.ipdl_forms.specs.Documents.{Document, Entry, protocol_entry, theorem_entry}
 use Rattle.ipdl_printing.specs.Printing.{headed, port_tree, protocol_tree}
 
 -- `(out CHANNEL (ret LITERAL))`, of one bit
@@ -36,25 +38,25 @@ worked_document = record {
   entries =
       bit_protocol (codes "A") first_body ∷ bit_protocol (codes "B") worked_body
       ∷ theorem_entry (codes "t") (codes "A") (codes "B")
-      (forward [] (record { rule = codes "comm"; arguments = [] }) ∷ []) [] ∷ [];
+      (plain [] comm ∷ []) [] ∷ [];
 }
 
 -- ---- its tree
 
-abbrev pub protocol_item_tree : List ℕ → Protocol → Placed
+abbrev pub protocol_item_tree : List ℕ → Protocol → Located
 protocol_item_tree name body =
     headed (codes "protocol")
     (word 0 name ∷ headed (codes "inputs") []
     ∷ headed (codes "outputs") (port_tree (codes "a") 1 ∷ port_tree (codes "b") 1 ∷ [])
     ∷ protocol_tree [] body ∷ [])
 
-abbrev pub theorem_tree : Placed
+abbrev pub theorem_tree : Located
 theorem_tree =
     headed (codes "theorem")
     (word 0 (codes "t") ∷ word 0 (codes "A") ∷ word 0 (codes "B")
     ∷ headed (codes "left") (headed (codes "comm") (group 0 no_trees ∷ []) ∷ []) ∷ headed (codes "right") [] ∷ [])
 
-abbrev pub worked_tree : Placed
+abbrev pub worked_tree : Located
 worked_tree =
     headed (codes "ipdl")
     (number 0 1 ∷ protocol_item_tree (codes "A") first_body ∷ protocol_item_tree (codes "B") worked_body ∷ theorem_tree ∷ [])

@@ -1,16 +1,16 @@
--- The lines that say where and why a source is refused.
+-- The lines that say where and why something is refused.
 use Rattle.std.specs.Prelude.{ℕ, List, [], ◌∷◌, codes}
 use Rattle.std.specs.Fmt.{decimal}
-use Rattle.ipdl_base.specs.Limits.{limit_number}
 use Rattle.ipdl_base.specs.declared.limit.Limit.{Limit}
 use Rattle.ipdl_base.specs.declared.limit.Limit.TheVariants.{Source, Depth, Items, Channels, Nodes, Steps, Chain, Output, Coins}
 use Rattle.ipdl_tree.specs.declared.fault.SpellCause.{SpellCause}
 use Rattle.ipdl_tree.specs.declared.fault.SpellCause.TheVariants.{BadByte, BadName, Unclosed, Extra, NoText}
+use Rattle.ipdl_typing.specs.Checks.{Cause, width, unbound, no_symbol, unwritten, not_output, twice, new_unwritten, missing, interface, Failure}
 use Rattle.ipdl_forms.specs.declared.fault.FormCause.{FormCause}
 use Rattle.ipdl_forms.specs.declared.fault.FormCause.TheVariants.{NotAForm, UnknownName, Repeated, WrongWidth, TableLength}
-use Rattle.ipdl_top.specs.Words.{line, spaced}
+use Rattle.ipdl_printing.specs.Texts.{line, spaced, place_text}
 
--- ---- names
+-- ---- the words of causes
 
 abbrev pub spell_cause_name : SpellCause → List ℕ
 spell_cause_name BadByte = codes "BadByte"
@@ -37,6 +37,32 @@ limit_name Chain = codes "Chain"
 limit_name Output = codes "Output"
 limit_name Coins = codes "Coins"
 
+abbrev pub cause_text : Cause → List ℕ
+cause_text (width want got) = spaced (codes "Width" ∷ decimal want ∷ decimal got ∷ [])
+cause_text (unbound n) = spaced (codes "Unbound" ∷ decimal n ∷ [])
+cause_text (no_symbol n) = spaced (codes "NoSymbol" ∷ decimal n ∷ [])
+cause_text (unwritten c) = spaced (codes "Unwritten" ∷ c ∷ [])
+cause_text (not_output c) = spaced (codes "NotOutput" ∷ c ∷ [])
+cause_text (twice c) = spaced (codes "Twice" ∷ c ∷ [])
+cause_text (new_unwritten c) = spaced (codes "NewUnwritten" ∷ c ∷ [])
+cause_text (missing c) = spaced (codes "Missing" ∷ c ∷ [])
+cause_text (interface c) = spaced (codes "Interface" ∷ c ∷ [])
+
+-- ---- where a limit is passed
+
+abbrev pub at_byte : (offset : ℕ) → List (List ℕ)
+at_byte offset = codes "byte" ∷ decimal offset ∷ []
+
+abbrev pub at_item : (item : List ℕ) → List (List ℕ)
+at_item item = codes "item" ∷ item ∷ []
+
+abbrev pub at_theorem : (theorem : List ℕ) → List (List ℕ)
+at_theorem theorem = codes "theorem" ∷ theorem ∷ []
+
+-- at a step of a side of a theorem, the first one having the number 1
+abbrev pub at_step : (theorem : List ℕ) → (side : List ℕ) → (number : ℕ) → List (List ℕ)
+at_step theorem side number = codes "theorem" ∷ theorem ∷ side ∷ decimal number ∷ []
+
 -- ---- lines
 
 -- bytes that spell no tree, from the first byte on at which that shows
@@ -47,12 +73,20 @@ spell_line offset cause = line (spaced (codes "spell" ∷ decimal offset ∷ cau
 abbrev pub form_line : (offset : ℕ) → (cause : List ℕ) → List ℕ
 form_line offset cause = line (spaced (codes "form" ∷ decimal offset ∷ cause ∷ []))
 
--- a count that passes its limit at an offset
-abbrev pub limit_line : Limit → (offset : ℕ) → List ℕ
-limit_line limit offset =
-    line (spaced (codes "limit" ∷ limit_name limit ∷ decimal (limit_number limit) ∷ codes "at byte" ∷ decimal offset ∷ []))
-
--- a count that passes this number at what the words name
-abbrev pub limit_at_line : Limit → (number : ℕ) → (at_what : List (List ℕ)) → List ℕ
-limit_at_line limit number at_what =
+-- a count that passes this number
+abbrev pub limit_line : Limit → (number : ℕ) → (at_what : List (List ℕ)) → List ℕ
+limit_line limit number at_what =
     line (spaced (codes "limit" ∷ limit_name limit ∷ decimal number ∷ codes "at" ∷ at_what))
+
+-- an item that is ill typed
+abbrev pub ill_line : (item : List ℕ) → Failure → List ℕ
+ill_line item f = line (spaced (codes "ill" ∷ item ∷ place_text f.path ∷ cause_text f.cause ∷ []))
+
+-- a step of a theorem where the rule does not apply
+abbrev pub wrong_step_line : (theorem : List ℕ) → (side : List ℕ) → (number : ℕ) → (rule cause : List ℕ) → List ℕ
+wrong_step_line theorem side number rule cause =
+    line (spaced (codes "wrong" ∷ theorem ∷ side ∷ decimal number ∷ rule ∷ cause ∷ []))
+
+-- a theorem whose two ends differ first at a place
+abbrev pub ends_line : (theorem : List ℕ) → (place : List ℕ) → List ℕ
+ends_line theorem place = line (spaced (codes "wrong" ∷ theorem ∷ codes "ends" ∷ place_text place ∷ []))

@@ -1,37 +1,23 @@
 -- The protocols that the items of a document name.
-use Rattle.std.specs.Prelude.{ℕ, List, [], ◌∷◌, bytes_eq, if◌then◌else◌}
+use Rattle.std.specs.Prelude.{ℕ, List, [], ◌∷◌, bytes_eq, Option, Some, None, if◌then◌else◌}
 use Rattle.ipdl_term.specs.declared.interface.Interface.{Interface}
-use Rattle.ipdl_term.specs.Terms.{Protocol, nil}
+use Rattle.ipdl_term.specs.Terms.{Protocol}
 use Rattle.ipdl_forms.specs.Documents.{Entry, symbol_entry, protocol_entry, assumption_entry, theorem_entry}
-use Rattle.ipdl_printing.specs.Within.{IsProtocolWithin}
+use Rattle.ipdl_term.specs.Within.{IsProtocolWithin}
 
 -- a protocol with its interface
 pub record Network : Type 0 where
   pub interface : Interface
   pub body : Protocol
 
-abbrev pub no_interface : Interface
-no_interface = record { inputs = []; outputs = [] }
-
--- what stands for a protocol that is not there: one of no channels
-abbrev pub no_network : Network
-no_network = record { interface = no_interface; body = nil }
-
 -- the first protocol of the name
-abbrev pub network_named : List Entry → List ℕ → Network
-network_named [] name = no_network
+abbrev pub network_named : List Entry → List ℕ → Option Network
+network_named [] name = None
 network_named (symbol_entry n s ∷ entries) name = network_named entries name
 network_named (protocol_entry other interface body ∷ entries) name =
-    if bytes_eq other name then record { interface = interface; body = body } else network_named entries name
+    if bytes_eq other name then Some (record { interface = interface; body = body }) else network_named entries name
 network_named (assumption_entry other left right ∷ entries) name = network_named entries name
 network_named (theorem_entry other left right lefts rights ∷ entries) name = network_named entries name
-
--- the interface and the body of the protocol of the name
-abbrev pub interface_named : List Entry → List ℕ → Interface
-interface_named entries name = (network_named entries name).interface
-
-abbrev pub body_named : List Entry → List ℕ → Protocol
-body_named entries name = (network_named entries name).body
 
 -- the bodies of the protocols name symbols among so many, and each variable in them has a binder
 abbrev pub HasBodiesWithin : ℕ → List Entry → Type 0

@@ -1,128 +1,124 @@
--- What is answered to words and bytes.
-use Rattle.std.specs.Prelude.{◌≡◌, ℕ, ◌<◌, ◌≤◌, List, [], length, Some, None, codes, ◌⊎◌}
+-- What is answered to words and bytes: the first refusal that applies, or the text that answers the request.
+use Rattle.std.specs.Prelude.{◌≡◌, ℕ, ◌<◌, ◌≤◌, List, length, Some, codes, ◌⊎◌}
+use Rattle.ipdl_base.specs.Limits.{limit_number}
+use Rattle.ipdl_base.specs.declared.limit.Limit.{Limit}
 use Rattle.ipdl_base.specs.declared.limit.Limit.TheVariants.{Depth}
 use Rattle.ipdl_tree.specs.Refusals.{Cause, bad_byte, bad_name, unclosed, extra, no_text, deep, refusal}
 use Rattle.ipdl_tree.specs.declared.fault.SpellCause.TheVariants.{BadByte, BadName, Unclosed, Extra, NoText}
 use Rattle.ipdl_tree.specs.Spelling.{SpellsSource}
-use Rattle.ipdl_tree.specs.Trees.{Placed, depth_of}
+use Rattle.ipdl_tree.specs.Trees.{Located, depth_of}
 use Rattle.ipdl_forms.specs.Documents.{Document}
-use Rattle.ipdl_forms.specs.Faults.{first_fault}
+use Rattle.ipdl_forms.specs.Faults.{form_fault, over_fault, first_fault}
 use Rattle.ipdl_forms.specs.Items.{SpellsDocument, document_faults}
 use Rattle.ipdl_forms.specs.Limits.{IsWithinLimits}
-use Rattle.ipdl_forms.specs.declared.fault.DocFault.{DocFault}
-use Rattle.ipdl_forms.specs.declared.fault.DocFault.TheVariants as F
+use Rattle.ipdl_forms.specs.declared.fault.FormCause.{FormCause}
+use Rattle.ipdl_top.specs.Checking.{IsCheckRefusal, IsCheckAnswer}
+use Rattle.ipdl_top.specs.Refusals.{unspelled, misformed, over_at_byte}
+use Rattle.ipdl_top.specs.Requests.{Request, check, types, request_words, AreOfNoForm}
+use Rattle.ipdl_top.specs.Statuses.{over, Refusal, refusal_of, Reply, reply_of, refused, accepted}
+use Rattle.ipdl_top.specs.Telling.{IsTypesRefusal, IsTypesAnswer}
 use Rattle.ipdl_top.specs.Transfers.{source_limit}
-use Rattle.ipdl_top.specs.declared.command.Command.{Command}
-use Rattle.ipdl_top.specs.declared.command.Command.TheVariants.{Check, Types}
-use Rattle.ipdl_top.specs.declared.status.Status.TheVariants.{Accepted, BadSource, Usage, ReadFault, Memory, OverLimit}
-use Rattle.ipdl_top.specs.Words.{command_words, AreOfNoForm, line}
-use Rattle.ipdl_top.specs.Lines.{spell_cause_name, form_cause_name, spell_line, form_line, limit_line}
-use Rattle.ipdl_top.specs.Chains.{proved_text}
-use Rattle.ipdl_top.specs.Scripts.{first_theorem_refusal, IsProvedDocument}
-use Rattle.ipdl_top.specs.Statuses.{Reply, reply_of}
-use Rattle.ipdl_top.specs.Summaries.{summary_text}
-use Rattle.ipdl_top.specs.Typed.{first_item_refusal, IsTypedDocument}
+use Rattle.ipdl_top.specs.Typed.{type_refusal, IsTypedDocument}
+use Rattle.ipdl_printing.specs.Texts.{line}
+use Rattle.ipdl_top.specs.declared.status.Status.TheVariants.{Usage, ReadFault}
 
 -- words of no form
 abbrev pub usage_reply : Reply
-usage_reply = record { status = Usage; text = line (codes "usage") }
+usage_reply = reply_of Usage (line (codes "usage"))
 
 -- a source that failed
 abbrev pub fault_reply : Reply
-fault_reply = record { status = ReadFault; text = line (codes "fault read") }
+fault_reply = reply_of ReadFault (line (codes "fault read"))
 
 -- a source of too many bytes
-abbrev pub over_reply : Reply
-over_reply = record { status = OverLimit; text = line (codes "limit Source 1048576 at byte 1048576") }
+abbrev pub over_source : Refusal
+over_source = refusal_of over (line (codes "limit Source 1048576 at byte 1048576"))
 
--- ---- the bytes of a source
+-- ---- a source that is refused, whatever is asked
 
 -- bytes that spell no tree, or one of too many parentheses inside one another
-abbrev pub refusal_reply : (offset : ℕ) → Cause → Reply
-refusal_reply offset bad_byte = reply_of BadSource (spell_line offset (spell_cause_name BadByte))
-refusal_reply offset bad_name = reply_of BadSource (spell_line offset (spell_cause_name BadName))
-refusal_reply offset unclosed = reply_of BadSource (spell_line offset (spell_cause_name Unclosed))
-refusal_reply offset extra = reply_of BadSource (spell_line offset (spell_cause_name Extra))
-refusal_reply offset no_text = reply_of BadSource (spell_line offset (spell_cause_name NoText))
-refusal_reply offset deep = reply_of OverLimit (limit_line Depth offset)
+abbrev pub tree_refusal : (offset : ℕ) → Cause → Refusal
+tree_refusal offset bad_byte = unspelled offset BadByte
+tree_refusal offset bad_name = unspelled offset BadName
+tree_refusal offset unclosed = unspelled offset Unclosed
+tree_refusal offset extra = unspelled offset Extra
+tree_refusal offset no_text = unspelled offset NoText
+tree_refusal offset deep = over_at_byte Depth offset
 
--- a tree that spells no document, or one that passes a limit
-abbrev pub document_fault_reply : DocFault → Reply
-document_fault_reply (F.Form pos cause) = reply_of BadSource (form_line pos.0 (form_cause_name cause))
-document_fault_reply (F.Over limit pos) = reply_of OverLimit (limit_line limit pos.0)
-document_fault_reply F.Memory = reply_of Memory []
+-- the bytes spell no tree within the limit
+abbrev pub IsUnspelled : List ℕ → Refusal → Type 0
+IsUnspelled bytes r =
+    (offset : ℕ) × (cause : Cause) × (refusal bytes ≡ Some (offset, cause)) × (r ≡ tree_refusal offset cause)
 
--- the bytes are refused before they spell a tree
-abbrev pub IsUnspelled : List ℕ → Reply → Type 0
-IsUnspelled bytes reply =
-    (refused : ℕ × Cause) × (refusal bytes ≡ Some refused) × (reply ≡ refusal_reply refused.0 refused.1)
+-- the first test of the tree that fails is of a form
+abbrev pub IsMisformed : Located → Refusal → Type 0
+IsMisformed t r =
+    (offset : ℕ) × (cause : FormCause) × (first_fault (document_faults t) ≡ Some (form_fault cause offset))
+    × (r ≡ misformed offset cause)
 
--- the tree spells no document within the limits
-abbrev pub IsFaulty : Placed → Reply → Type 0
-IsFaulty t reply =
-    (fault : DocFault) × (first_fault (document_faults t) ≡ Some fault) × (reply ≡ document_fault_reply fault)
+-- the first test of the tree that fails is of a limit
+abbrev pub IsOverLimit : Located → Refusal → Type 0
+IsOverLimit t r =
+    (offset : ℕ) × (limit : Limit) × (first_fault (document_faults t) ≡ Some (over_fault limit offset))
+    × (r ≡ over_at_byte limit offset)
 
--- the tree spells this document, and both are within the limits
-pub record IsRead (d : Document) (t : Placed) : Type 0 where
-  pub shallow : depth_of t ≤ 200
-  pub within : IsWithinLimits d
+-- the bytes spell this tree, which is within the limit
+pub record IsTree (t : Located) (bytes : List ℕ) : Type 0 where
+  pub spelled : SpellsSource t bytes
+  pub shallow : depth_of t ≤ limit_number Depth
+
+-- the bytes, which are not too many, are refused before they give a document
+abbrev pub IsRefusedWithin : List ℕ → Refusal → Type 0
+IsRefusedWithin bytes r =
+    IsUnspelled bytes r ⊎ ((t : Located) × IsTree t bytes × (IsMisformed t r ⊎ IsOverLimit t r))
+
+-- all bytes of a source are refused
+abbrev pub IsRefusedSource : List ℕ → Refusal → Type 0
+IsRefusedSource bytes r =
+    ((source_limit < length bytes) × (r ≡ over_source)) ⊎ ((length bytes ≤ source_limit) × IsRefusedWithin bytes r)
+
+-- ---- a source that is a document
+
+-- the bytes spell this tree and the tree this document, and both are within the limits
+pub record IsDocument (d : Document) (t : Located) (bytes : List ℕ) : Type 0 where
+  pub tree : IsTree t bytes
   pub spelled : SpellsDocument d t
+  pub within : IsWithinLimits d
 
--- a test of an item fails
-abbrev pub IsIll : Document → Reply → Type 0
-IsIll d reply = first_item_refusal d.symbols d.entries d.entries ≡ Some reply
+-- what is asked of a document whose items are well typed is refused
+abbrev pub IsRequestRefusal : Request → Document → Located → Refusal → Type 0
+IsRequestRefusal check d t r = IsCheckRefusal d t r
+IsRequestRefusal types d t r = IsTypesRefusal d t r
 
--- a test of a theorem fails
-abbrev pub IsUnproved : Document → Placed → Reply → Type 0
-IsUnproved d t reply = first_theorem_refusal d.symbols d.entries t 0 0 d.entries ≡ Some reply
+-- what is asked of a document is answered by this text
+abbrev pub IsAnswer : Request → Document → List ℕ → Type 0
+IsAnswer check d text = IsCheckAnswer d text
+IsAnswer types d text = IsTypesAnswer d text
 
--- all theorems are proved by their scripts
-abbrev pub IsProvedReply : Document → Reply → Type 0
-IsProvedReply d reply = IsProvedDocument d × (reply ≡ reply_of Accepted (proved_text d))
+-- a test of an item fails, and this is the first one
+abbrev pub IsIll : Document → Refusal → Type 0
+IsIll d r = type_refusal d ≡ Some r
 
--- what is accepted with a command
-abbrev pub IsAcceptable : Command → Document → Type 0
-IsAcceptable Check d = IsTypedDocument d × IsProvedDocument d
-IsAcceptable Types d = IsTypedDocument d
+-- a document is refused: an item of it, or what is asked of it
+abbrev pub IsRefusedDocument : Request → Document → Located → Refusal → Type 0
+IsRefusedDocument request d t r = IsIll d r ⊎ (IsTypedDocument d × IsRequestRefusal request d t r)
 
--- what is written of it
-abbrev pub accepted_text : Command → Document → List ℕ
-accepted_text Check d = proved_text d
-accepted_text Types d = summary_text d
+-- ---- the reply
 
--- the document is accepted
-abbrev pub IsSettled : Command → Document → Reply → Type 0
-IsSettled command d reply = IsAcceptable command d × (reply ≡ reply_of Accepted (accepted_text command d))
+-- a refusal, or else a text
+abbrev pub IsReplyBy : (Refusal → Type 0) → (List ℕ → Type 0) → Reply → Type 0
+IsReplyBy refuses answers reply =
+    ((r : Refusal) × refuses r × (reply ≡ refused r)) ⊎ ((text : List ℕ) × answers text × (reply ≡ accepted text))
 
--- The reply to a document that is read: the first test of an item that fails, or that of a theorem, or the accepted
--- text. `types` does not look at scripts.
-abbrev pub IsReplyToDocument : Command → Document → Placed → Reply → Type 0
-IsReplyToDocument Check d t reply =
-    IsIll d reply ⊎ ((IsTypedDocument d × IsUnproved d t reply) ⊎ IsSettled Check d reply)
-IsReplyToDocument Types d t reply = IsIll d reply ⊎ IsSettled Types d reply
+-- the reply to a request, to all bytes of a source
+abbrev pub IsReplyTo : Request → List ℕ → Reply → Type 0
+IsReplyTo request bytes reply =
+    ((r : Refusal) × IsRefusedSource bytes r × (reply ≡ refused r))
+    ⊎ ((length bytes ≤ source_limit) × ((t : Located) × (d : Document) × IsDocument d t bytes
+    × IsReplyBy (IsRefusedDocument request d t) (IsAnswer request d) reply))
 
--- the reply to a tree: the first fault of it, or what is said of the document that it spells
-abbrev pub IsReplyToTree : Command → Placed → Reply → Type 0
-IsReplyToTree command t reply =
-    IsFaulty t reply ⊎ ((d : Document) × IsRead d t × IsReplyToDocument command d t reply)
-
--- the reply to bytes within the limit: the first refusal that applies, else the accepted text
-abbrev pub IsReplyWithin : Command → List ℕ → Reply → Type 0
-IsReplyWithin command bytes reply =
-    IsUnspelled bytes reply
-    ⊎ ((t : Placed) × (refusal bytes ≡ None) × SpellsSource t bytes × IsReplyToTree command t reply)
-
--- the reply to all bytes of a source
-abbrev pub IsReplyToBytes : Command → List ℕ → Reply → Type 0
-IsReplyToBytes command bytes reply =
-    ((source_limit < length bytes) × (reply ≡ over_reply))
-    ⊎ ((length bytes ≤ source_limit) × IsReplyWithin command bytes reply)
-
--- the words are those of the command, and this is the reply to all bytes of a source
-abbrev pub IsReplyToCommand : List (List ℕ) → List ℕ → Reply → Type 0
-IsReplyToCommand words bytes reply =
-    (command : Command) × (words ≡ command_words command) × IsReplyToBytes command bytes reply
-
--- the reply to words and all bytes of a source: the first refusal that applies, else the accepted text
+-- the reply to words, and to all bytes of a source
 abbrev pub IsReply : List (List ℕ) → List ℕ → Reply → Type 0
-IsReply words bytes reply = (AreOfNoForm words × (reply ≡ usage_reply)) ⊎ IsReplyToCommand words bytes reply
+IsReply words bytes reply =
+    (AreOfNoForm words × (reply ≡ usage_reply))
+    ⊎ ((request : Request) × (words ≡ request_words request) × IsReplyTo request bytes reply)

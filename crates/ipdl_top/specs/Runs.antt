@@ -1,16 +1,14 @@
 -- What a run says of its words, its source and its sink.
-use Rattle.std.specs.Prelude.{◌≡◌, ℕ, ◌≤◌, List, Option, Some, ◌⊎◌, ⊤}
-use Rattle.std.specs.Io.KnownBytes.{IsAtEnd}
+use Rattle.std.specs.Prelude.{◌≡◌, ℕ, ◌≤◌, List, length, Option, Some, ◌⊎◌, ⊤}
 use Rattle.ipdl_io.specs.Faults.{MayHaveRisen}
-use Rattle.ipdl_tree.specs.Spelling.{SpellsSource}
-use Rattle.ipdl_tree.specs.Trees.{Placed}
+use Rattle.ipdl_tree.specs.Trees.{Located}
 use Rattle.ipdl_forms.specs.Documents.{Document}
-use Rattle.ipdl_top.specs.declared.command.Command.{Command}
 use Rattle.ipdl_top.specs.declared.status.Status.{Status}
 use Rattle.ipdl_top.specs.declared.status.Status.TheVariants.{Accepted, WrongStep, BadSource, Usage, ReadFault, WriteFault, Memory, OverLimit}
-use Rattle.ipdl_top.specs.Transfers.{Took, TookFront}
-use Rattle.ipdl_top.specs.Replies.{IsRead, IsAcceptable, accepted_text, IsReply}
+use Rattle.ipdl_top.specs.Replies.{IsDocument, IsAnswer, IsReply}
+use Rattle.ipdl_top.specs.Requests.{Request, request_words, ReadsNothing}
 use Rattle.ipdl_top.specs.Statuses.{Reply}
+use Rattle.ipdl_top.specs.Transfers.{source_limit, Took, TookFront}
 
 -- a status that the words and the bytes decide
 abbrev pub IsVerdict : Status → Type 0
@@ -23,16 +21,20 @@ IsVerdict WriteFault = ⊥
 IsVerdict Memory = ⊥
 IsVerdict OverLimit = ⊤
 
--- a status that wants all bytes of the source
-abbrev pub IsOfWholeSource : Status → Type 0
-IsOfWholeSource Accepted = ⊤
-IsOfWholeSource WrongStep = ⊤
-IsOfWholeSource BadSource = ⊤
-IsOfWholeSource Usage = ⊥
-IsOfWholeSource ReadFault = ⊥
-IsOfWholeSource WriteFault = ⊥
-IsOfWholeSource Memory = ⊥
-IsOfWholeSource OverLimit = ⊥
+-- a status that is answered after the last byte of a source
+abbrev pub IsAfterSource : Status → Type 0
+IsAfterSource Accepted = ⊤
+IsAfterSource WrongStep = ⊤
+IsAfterSource BadSource = ⊤
+IsAfterSource Usage = ⊥
+IsAfterSource ReadFault = ⊥
+IsAfterSource WriteFault = ⊥
+IsAfterSource Memory = ⊥
+IsAfterSource OverLimit = ⊥
+
+-- words and a status that want all bytes of the source
+abbrev pub IsOfWholeSource : List (List ℕ) → Status → Type 0
+IsOfWholeSource words status = IsAfterSource status × (ReadsNothing words → ⊥)
 
 -- the text was written whole and the status is the one planned, or a write failed
 pub record IsFinished (planned result : Status) (taken taken' : Option (List ℕ)) (faults faults' : ℕ) (text : List ℕ) : Type 0 where
@@ -50,9 +52,15 @@ abbrev pub IsRepliedFront : List (List ℕ) → Option (List ℕ) → Option (Li
 IsRepliedFront words left taken taken' =
     (bytes : List ℕ) → left ≡ Some bytes → (reply : Reply) × IsReply words bytes reply × TookFront taken taken' reply.text
 
--- The source is at its end. The bytes that it told spell a tree of a document that is accepted with the command, and
--- its text was written.
-abbrev pub IsAcceptedDocument : Command → (left left' taken taken' : Option (List ℕ)) → Type 0
-IsAcceptedDocument command left left' taken taken' =
-    IsAtEnd left' × ((bytes : List ℕ) → left ≡ Some bytes → (t : Placed) × (d : Document) × SpellsSource t bytes
-    × IsRead d t × IsAcceptable command d × Took taken taken' (accepted_text command d))
+-- the bytes are those of a document, and this text answers what is asked of it
+pub record IsAnswered (request : Request) (bytes : List ℕ) (t : Located) (d : Document) (text : List ℕ) : Type 0 where
+  pub few : length bytes ≤ source_limit
+  pub document : IsDocument d t bytes
+  pub answer : IsAnswer request d text
+
+-- The words are those of a request, where they are those of any. The bytes that the source told are those of a
+-- document, and the text that answers the request was written.
+abbrev pub IsAccepted : List (List ℕ) → (left taken taken' : Option (List ℕ)) → Type 0
+IsAccepted words left taken taken' =
+    (request : Request) × (words ≡ request_words request) × ((bytes : List ℕ) → left ≡ Some bytes →
+    (t : Located) × (d : Document) × (text : List ℕ) × IsAnswered request bytes t d text × Took taken taken' text)

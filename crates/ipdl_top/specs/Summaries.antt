@@ -7,7 +7,7 @@ use Rattle.ipdl_term.specs.Protocols.{coins}
 use Rattle.ipdl_term.specs.Sizes.{channel_count, protocol_nodes}
 use Rattle.ipdl_term.specs.Terms.{Protocol}
 use Rattle.ipdl_forms.specs.Documents.{Document, Entry, symbol_entry, protocol_entry, assumption_entry, theorem_entry}
-use Rattle.ipdl_top.specs.Words.{line, spaced}
+use Rattle.ipdl_printing.specs.Texts.{line, spaced}
 
 -- the head of a symbol's item: a table has values
 abbrev pub symbol_head : Option (List (List Bool)) → List ℕ

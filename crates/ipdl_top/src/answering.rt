@@ -1,110 +1,133 @@
-// What is answered to the bytes of a source.
+//! What is answered to a request and the bytes of a source: a text, or the line of a refusal.
 
-ghost use Rattle.std.specs.Prelude.{◌≡◌, ◌≢◌, ◌≤◌, ℕ, length, IfOk, OnOk};
-ghost use Rattle.ipdl_tree.specs.Faults.{fault_of};
-ghost use Rattle.ipdl_tree.specs.Refusals.{Cause};
-ghost use Rattle.ipdl_tree.specs.Views.{placed};
+ghost use Rattle.std.specs.Prelude.{◌≡◌, ◌≤◌, IfOk, IfErr, length};
+ghost use Rattle.ipdl_tree.specs.Views.{located};
 ghost use Rattle.ipdl_forms.specs.Documents.{document_of};
-ghost use Rattle.ipdl_top.specs.Replies.{refusal_reply, document_fault_reply, IsRead, IsReplyToDocument, IsReplyWithin};
-ghost use Rattle.ipdl_top.specs.Statuses.{answered};
+ghost use Rattle.ipdl_forms.specs.Items.{SpellsDocument};
+ghost use Rattle.ipdl_forms.specs.Limits.{IsWithinLimits};
+ghost use Rattle.ipdl_top.specs.Checking.{IsCheckRefusal, IsCheckAnswer};
+ghost use Rattle.ipdl_top.specs.Replies.{IsRequestRefusal, IsRefusedDocument, IsAnswer, IsReplyTo};
+ghost use Rattle.ipdl_top.specs.Statuses.{refused, accepted};
+ghost use Rattle.ipdl_top.specs.Summaries.{summary_text};
+ghost use Rattle.ipdl_top.specs.Told.{request_of, told, answered, Settles};
 ghost use Rattle.ipdl_top.specs.Transfers.{source_limit};
 ghost use Rattle.ipdl_top.specs.Typed.{IsTypedDocument};
 
-use crate::answer::Answer;
-use crate::command::Command;
-use crate::refusing::{form_text, limit_text, spell_text};
-use crate::scripts::answer_to_scripts;
+use crate::refusal::{Refusal, Stop, document_stop, tree_stop};
+use crate::refusing::refusal_text;
+use crate::request::Request;
+use crate::scripts::proved_text;
 use crate::status::Status;
 use crate::summaries::summary_text;
-use crate::typing::first_item_refusal;
-use ipdl_base::{Limit, NoMemory};
-use ipdl_forms::{DocFault, Document, read_document};
-use ipdl_tree::{Tree, TreeFault, read_tree};
+use crate::typing::test_items;
+use ipdl_base::NoMemory;
+use ipdl_forms::Document;
+use ipdl_read::read_document;
+use ipdl_tree::{Tree, read_tree};
 use std::alloc::Global;
 
-// The answer to bytes that spell no tree.
-fn answer_to_tree_fault(alloc: Global, fault: TreeFault) -> Result<Answer, NoMemory>
-    ensures reply { IfOk result (λ a. (offset : ℕ) (cause : Cause) → fault_of (offset, cause) ≡ fault → answered a ≡ refusal_reply offset cause) }
-    ensures memory { OnOk result (fault ≢ TreeFault.Memory) }
+// The answer to `check`, of a document whose items are well typed.
+fn answer_to_check(alloc: Global, tree: &Tree, document: &Document) -> Result<Vec<u8>, Stop>
+    requires spelled { SpellsDocument (document_of document.now) (located tree.now) }
+    requires typed { IsTypedDocument (document_of document.now) }
+    ensures { Settles result (IsCheckRefusal (document_of document.now) (located tree.now)) (IsCheckAnswer (document_of document.now)) }
 {
-    match fault {
-        TreeFault::Spell { pos, cause } => Ok(Answer {
-            status: Status::BadSource,
-            text: spell_text(alloc, pos, cause)?,
-        }),
-        TreeFault::Deep { pos } => Ok(Answer {
-            status: Status::OverLimit,
-            text: limit_text(alloc, Limit::Depth, pos)?,
-        }),
-        TreeFault::Memory => Err(NoMemory),
-    }
+    proved_text(alloc, tree, document)
 }
 
-// The answer to a tree that spells no document within the limits.
-fn answer_to_document_fault(alloc: Global, fault: DocFault) -> Result<Answer, NoMemory>
-    ensures reply { IfOk result (λ a. answered a ≡ document_fault_reply fault) }
-    ensures memory { OnOk result (fault ≢ DocFault.Memory) }
+// The answer to `types`, of a document whose items are well typed.
+fn answer_to_types(alloc: Global, document: &Document) -> Result<Vec<u8>, Stop>
+    requires within { IsWithinLimits (document_of document.now) }
+    requires typed { IsTypedDocument (document_of document.now) }
+    ensures text { IfOk result (λ text. text.items ≡ summary_text (document_of document.now)) }
+    ensures memory { IfErr result (λ stop. stop ≡ Stop.Memory) }
 {
-    match fault {
-        DocFault::Form { pos, cause } => Ok(Answer {
-            status: Status::BadSource,
-            text: form_text(alloc, pos, cause)?,
-        }),
-        DocFault::Over { limit, pos } => Ok(Answer {
-            status: Status::OverLimit,
-            text: limit_text(alloc, limit, pos)?,
-        }),
-        DocFault::Memory => Err(NoMemory),
+    match summary_text(alloc, document) {
+        Ok(text) => Ok(text),
+        Err(NoMemory) => Err(Stop::Memory),
     }
 }
 
 // The answer to a document whose items are well typed.
 fn answer_to_typed(
     alloc: Global,
-    command: Command,
+    request: Request,
     tree: &Tree,
     document: &Document,
-) -> Result<Answer, NoMemory>
+) -> Result<Vec<u8>, Stop>
+    requires spelled { SpellsDocument (document_of document.now) (located tree.now) }
+    requires within { IsWithinLimits (document_of document.now) }
     requires typed { IsTypedDocument (document_of document.now) }
-    requires read { IsRead (document_of document.now) (placed tree.now) }
-    ensures { IfOk result (λ a. IsReplyToDocument command (document_of document.now) (placed tree.now) (answered a)) }
+    ensures { Settles result (IsRequestRefusal (request_of request) (document_of document.now) (located tree.now)) (IsAnswer (request_of request) (document_of document.now)) }
 {
-    match command {
-        Command::Check => answer_to_scripts(alloc, tree, document),
-        Command::Types => Ok(Answer {
-            status: Status::Accepted,
-            text: summary_text(alloc, document)?,
-        }),
+    match request {
+        Request::Check => answer_to_check(alloc, tree, document),
+        Request::Types => answer_to_types(alloc, document),
     }
 }
 
 // The answer to a document.
 fn answer_to_document(
     alloc: Global,
-    command: Command,
+    request: Request,
     tree: &Tree,
     document: &Document,
-) -> Result<Answer, NoMemory>
-    requires { IsRead (document_of document.now) (placed tree.now) }
-    ensures { IfOk result (λ a. IsReplyToDocument command (document_of document.now) (placed tree.now) (answered a)) }
+) -> Result<Vec<u8>, Stop>
+    requires spelled { SpellsDocument (document_of document.now) (located tree.now) }
+    requires within { IsWithinLimits (document_of document.now) }
+    ensures { Settles result (IsRefusedDocument (request_of request) (document_of document.now) (located tree.now)) (IsAnswer (request_of request) (document_of document.now)) }
 {
-    match first_item_refusal(alloc, document)? {
-        Some(answer) => Ok(answer),
-        None => answer_to_typed(alloc, command, tree, document),
+    match test_items(alloc, document) {
+        Ok(()) => answer_to_typed(alloc, request, tree, document),
+        Err(stop) => Err(stop),
     }
 }
 
 // The answer to all bytes of a source, which are within the limit.
-pub(crate) fn answer_to(alloc: Global, command: Command, bytes: &[u8]) -> Result<Answer, NoMemory>
+fn answer_to(alloc: Global, request: Request, bytes: &[u8]) -> Result<Vec<u8>, Stop>
     requires { length bytes.now ≤ source_limit }
-    ensures { IfOk result (λ a. IsReplyWithin command bytes.now (answered a)) }
+    ensures { Settles result (λ r. IsReplyTo (request_of request) bytes.now (refused r)) (λ text. IsReplyTo (request_of request) bytes.now (accepted text)) }
 {
     let tree = match read_tree(alloc, bytes) {
         Ok(tree) => tree,
-        Err(fault) => return answer_to_tree_fault(alloc, fault),
+        Err(fault) => return Err(tree_stop(fault)),
     };
     match read_document(alloc, &tree) {
-        Ok(document) => answer_to_document(alloc, command, &tree, &document),
-        Err(fault) => answer_to_document_fault(alloc, fault),
+        Ok(document) => answer_to_document(alloc, request, &tree, &document),
+        Err(fault) => Err(document_stop(fault)),
+    }
+}
+
+// A status, and the text that is to be written with it.
+#[derive(Drop)]
+pub(crate) struct Answer {
+    pub(crate) status: Status,
+    pub(crate) text: Vec<u8>,
+}
+
+// The answer that says why something is refused.
+fn refusing_answer(alloc: Global, refusal: &Refusal) -> Result<Answer, NoMemory>
+    ensures { IfOk result (λ answer. answered answer ≡ refused (told refusal.now)) }
+{
+    let text = refusal_text(alloc, refusal)?;
+    Ok(Answer {
+        status: refusal.status(),
+        text: text.into_bytes(),
+    })
+}
+
+// The reply to all bytes of a source, which are within the limit: the text, or the line that says
+// why there is none.
+pub(crate) fn reply_to(alloc: Global, request: Request, bytes: &[u8]) -> Result<Answer, NoMemory>
+    requires { length bytes.now ≤ source_limit }
+    ensures { IfOk result (λ answer. IsReplyTo (request_of request) bytes.now (answered answer)) }
+{
+    match answer_to(alloc, request, bytes) {
+        Ok(text) => Ok(Answer {
+            status: Status::Accepted,
+            text,
+        }),
+        Err(Stop::Refused(refusal)) => refusing_answer(alloc, &refusal),
+        Err(Stop::Memory) => Err(NoMemory),
     }
 }

@@ -1,6 +1,7 @@
-// The first place at which two terms differ.
+//! The first place at which two terms differ.
 
 ghost use Rattle.std.specs.Prelude.{◌≡◌, [], Some, IfOk};
+ghost use Rattle.ipdl_term.specs.Terms.{parallel};
 ghost use Rattle.ipdl_term.specs.Views.{expression_of, reaction_of, protocol_of};
 ghost use Rattle.ipdl_top.specs.Ends.{exchanged, below, outward, differing_in_expression, differing_in_reaction, differing_place};
 
@@ -10,16 +11,6 @@ use std::alloc::Global;
 
 // A place, if there is one. Its last child is the outermost, so that going outward takes one push.
 type Found = Option<List<u32>>;
-
-// The protocol with the two parts of a `par` exchanged.
-pub(crate) fn exchanged(proto: Proto) -> Proto
-    ensures { protocol_of result ≡ exchanged (protocol_of proto) }
-{
-    match proto {
-        Proto::Par(p, q) => Proto::Par(q, p),
-        other => other,
-    }
-}
 
 // The place in the child of this number.
 fn below(child: u32, place: Found) -> Result<Found, NoMemory>
@@ -127,15 +118,48 @@ fn differing_in_proto(alloc: Global, left: &Proto, right: &Proto) -> Result<Foun
     }
 }
 
-// The first place in preorder at which the protocols differ, from the root on.
-pub(crate) fn differing_place(
+// The first place at which the `par` of the two parts differs from the protocol.
+fn differing_in_par(
+    alloc: Global,
+    first: &Proto,
+    second: &Proto,
+    right: &Proto,
+) -> Result<Found, NoMemory>
+    ensures { IfOk result (λ r. outward r ≡ differing_place (parallel (protocol_of first.now) (protocol_of second.now)) (protocol_of right.now)) }
+{
+    match right {
+        Proto::Par(p, q) => {
+            if let Some(place) = differing_in_proto(alloc, first, p)? {
+                return below(0, Some(place));
+            }
+            below(1, differing_in_proto(alloc, second, q)?)
+        }
+        _ => Ok(here(alloc)),
+    }
+}
+
+// The first place at which the left protocol with its two parts exchanged differs from the right.
+fn differing_exchanged(alloc: Global, left: &Proto, right: &Proto) -> Result<Found, NoMemory>
+    ensures { IfOk result (λ r. outward r ≡ differing_place (exchanged (protocol_of left.now)) (protocol_of right.now)) }
+{
+    match left {
+        Proto::Par(p, q) => differing_in_par(alloc, q, p, right),
+        Proto::Nil | Proto::Out(_, _) | Proto::Hide(_, _, _) => {
+            differing_in_proto(alloc, left, right)
+        }
+    }
+}
+
+// The first place in preorder at which the left protocol with its two parts exchanged differs from
+// the right, from the root on.
+pub(crate) fn exchanged_differs_at(
     alloc: Global,
     left: &Proto,
     right: &Proto,
 ) -> Result<Option<List<u32>>, NoMemory>
-    ensures { IfOk result (λ r. r ≡ differing_place (protocol_of left.now) (protocol_of right.now)) }
+    ensures { IfOk result (λ r. r ≡ differing_place (exchanged (protocol_of left.now)) (protocol_of right.now)) }
 {
-    match differing_in_proto(alloc, left, right)? {
+    match differing_exchanged(alloc, left, right)? {
         None => Ok(None),
         Some(place) => {
             let mut children = place.into_vec();

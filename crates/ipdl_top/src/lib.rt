@@ -2,13 +2,12 @@
 //! source to a status and the bytes that a sink takes.
 #![tactic(auto)]
 
-mod answer;
 mod answering;
-mod command;
 mod comparing;
-mod finding;
 mod laws;
+mod refusal;
 mod refusing;
+mod request;
 mod runner;
 mod scripts;
 mod status;
@@ -20,7 +19,8 @@ mod typing;
 mod writing;
 
 pub use laws::{
-    protocols_differ_somewhere_or_are_one, words_and_bytes_have_one_reply, worked_example,
+    protocols_differ_somewhere_or_are_one, the_first_item_is_refused, the_first_theorem_is_refused,
+    words_and_bytes_have_one_reply, words_are_of_one_request, worked_example,
 };
 pub use runner::run;
 pub use status::Status;

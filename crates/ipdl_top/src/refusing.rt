@@ -1,13 +1,20 @@
-// The lines that say where and why a source is refused.
+//! The lines that say where and why something is refused.
 
-ghost use Rattle.std.specs.Prelude.{◌≡◌, [], ◌∷◌, IfOk, codes};
-ghost use Rattle.ipdl_top.specs.Lines.{spell_cause_name, form_cause_name, limit_name, spell_line, form_line, limit_line, limit_at_line};
-ghost use Rattle.ipdl_top.specs.Scripts.{no_match_reply};
+ghost use Rattle.std.specs.Prelude.{◌≡◌, ◌++◌, IfOk, OnOk, string_bytes, codes};
+ghost use Rattle.ipdl_typing.specs.Answers.{cause_of, failure_of};
+ghost use Rattle.ipdl_top.specs.Lines.{spell_cause_name, form_cause_name, limit_name, cause_text, spell_line, form_line, limit_line, ill_line, wrong_step_line, ends_line};
+ghost use Rattle.ipdl_top.specs.Told.{side_name, where_words, told};
+ghost use Rattle.ipdl_printing.specs.Texts.{spaced};
 
+use crate::refusal::{Refusal, Side, Where};
 use ipdl_base::{Limit, Name, NoMemory, Pos};
 use ipdl_forms::FormCause;
+use ipdl_printing::push_place;
 use ipdl_tree::SpellCause;
+use ipdl_typing::{Ill, IllCause};
 use std::alloc::Global;
+
+// ---- the words of causes
 
 fn spell_cause_name(cause: SpellCause) -> &'static str
     ensures { result.now ≡ spell_cause_name cause }
@@ -49,104 +56,126 @@ fn limit_name(limit: Limit) -> &'static str
     }
 }
 
-// The line of bytes that spell no tree.
-pub(crate) fn spell_text(alloc: Global, pos: Pos, cause: SpellCause) -> Result<Vec<u8>, NoMemory>
-    ensures { IfOk result (λ text. text.items ≡ spell_line pos.0 (spell_cause_name cause)) }
+fn side_name(side: Side) -> &'static str
+    ensures { result.now ≡ side_name side }
+{
+    match side {
+        Side::Left => "left",
+        Side::Right => "right",
+    }
+}
+
+fn push_cause(text: &mut String, cause: &IllCause) -> Result<(), NoMemory>
+    ensures { OnOk result (string_bytes text.new ≡ string_bytes text.old ++ cause_text (cause_of cause.now)) }
+{
+    match cause {
+        IllCause::Width { want, got } => write!(text, "Width {want} {got}")?,
+        IllCause::Unbound { number } => write!(text, "Unbound {number}")?,
+        IllCause::NoSymbol { number } => write!(text, "NoSymbol {number}")?,
+        IllCause::Unwritten { name } => write!(text, "Unwritten {}", name.text())?,
+        IllCause::NotOutput { name } => write!(text, "NotOutput {}", name.text())?,
+        IllCause::Twice { name } => write!(text, "Twice {}", name.text())?,
+        IllCause::NewUnwritten { name } => write!(text, "NewUnwritten {}", name.text())?,
+        IllCause::Missing { name } => write!(text, "Missing {}", name.text())?,
+        IllCause::Interface { name } => write!(text, "Interface {}", name.text())?,
+    }
+    Ok(())
+}
+
+fn push_where(text: &mut String, at: &Where) -> Result<(), NoMemory>
+    ensures { OnOk result (string_bytes text.new ≡ string_bytes text.old ++ spaced (where_words at.now)) }
+{
+    match at {
+        Where::Byte(pos) => write!(text, "byte {}", pos.0)?,
+        Where::Item(item) => write!(text, "item {}", item.text())?,
+        Where::Theorem(theorem) => write!(text, "theorem {}", theorem.text())?,
+        Where::Step(theorem, side, number) => {
+            write!(
+                text,
+                "theorem {} {} {number}",
+                theorem.text(),
+                side_name(*side)
+            )?
+        }
+    }
+    Ok(())
+}
+
+// ---- lines
+
+fn spell_text(alloc: Global, pos: Pos, cause: SpellCause) -> Result<String, NoMemory>
+    ensures { IfOk result (λ text. string_bytes text ≡ spell_line pos.0 (spell_cause_name cause)) }
 {
     let mut text = String::new(alloc);
     let offset = pos.0;
     let cause = spell_cause_name(cause);
     writeln!(text, "spell {offset} {cause}")?;
-    Ok(text.into_bytes())
+    Ok(text)
 }
 
-// The line of a tree that is not of the form that is asked.
-pub(crate) fn form_text(alloc: Global, pos: Pos, cause: FormCause) -> Result<Vec<u8>, NoMemory>
-    ensures { IfOk result (λ text. text.items ≡ form_line pos.0 (form_cause_name cause)) }
+fn form_text(alloc: Global, pos: Pos, cause: &str) -> Result<String, NoMemory>
+    ensures { IfOk result (λ text. string_bytes text ≡ form_line pos.0 cause.now) }
 {
     let mut text = String::new(alloc);
     let offset = pos.0;
-    let cause = form_cause_name(cause);
     writeln!(text, "form {offset} {cause}")?;
-    Ok(text.into_bytes())
+    Ok(text)
 }
 
-// The line of a theorem whose script is not of the form that is followed.
-pub(crate) fn not_built_text(alloc: Global, pos: Pos) -> Result<Vec<u8>, NoMemory>
-    ensures { IfOk result (λ text. text.items ≡ form_line pos.0 (codes "NotBuilt")) }
-{
-    let mut text = String::new(alloc);
-    let offset = pos.0;
-    writeln!(text, "form {offset} NotBuilt")?;
-    Ok(text.into_bytes())
-}
-
-// The line of a count that passes its limit.
-pub(crate) fn limit_text(alloc: Global, limit: Limit, pos: Pos) -> Result<Vec<u8>, NoMemory>
-    ensures { IfOk result (λ text. text.items ≡ limit_line limit pos.0) }
+fn limit_text(alloc: Global, limit: Limit, number: u64, at: &Where) -> Result<String, NoMemory>
+    ensures { IfOk result (λ text. string_bytes text ≡ limit_line limit number (where_words at.now)) }
 {
     let mut text = String::new(alloc);
     let name = limit_name(limit);
-    let number = limit.number();
-    let offset = pos.0;
-    writeln!(text, "limit {name} {number} at byte {offset}")?;
-    Ok(text.into_bytes())
+    write!(text, "limit {name} {number} at ")?;
+    push_where(&mut text, at)?;
+    text.push_str("\n")?;
+    Ok(text)
 }
 
-// The line of an item that passes this number.
-pub(crate) fn limit_at_item(
-    alloc: Global,
-    limit: Limit,
-    number: u64,
-    item: &Name,
-) -> Result<Vec<u8>, NoMemory>
-    ensures { IfOk result (λ text. text.items ≡ limit_at_line limit number (codes "item" ∷ item.now ∷ [])) }
+fn ill_text(alloc: Global, item: &Name, ill: &Ill) -> Result<String, NoMemory>
+    ensures { IfOk result (λ text. string_bytes text ≡ ill_line item.now (failure_of ill.now)) }
 {
     let mut text = String::new(alloc);
-    let name = limit_name(limit);
-    let item = item.text();
-    writeln!(text, "limit {name} {number} at item {item}")?;
-    Ok(text.into_bytes())
+    write!(text, "ill {} ", item.text())?;
+    push_place(&mut text, ill.path.parts())?;
+    text.push_str(" ")?;
+    push_cause(&mut text, &ill.cause)?;
+    text.push_str("\n")?;
+    Ok(text)
 }
 
-// The line of a theorem that passes this number.
-pub(crate) fn limit_at_theorem(
-    alloc: Global,
-    limit: Limit,
-    number: u64,
-    theorem: &Name,
-) -> Result<Vec<u8>, NoMemory>
-    ensures { IfOk result (λ text. text.items ≡ limit_at_line limit number (codes "theorem" ∷ theorem.now ∷ [])) }
-{
-    let mut text = String::new(alloc);
-    let name = limit_name(limit);
-    let theorem = theorem.text();
-    writeln!(text, "limit {name} {number} at theorem {theorem}")?;
-    Ok(text.into_bytes())
-}
-
-// The line of a theorem whose first step gives what passes this number.
-pub(crate) fn limit_at_step(
-    alloc: Global,
-    limit: Limit,
-    number: u64,
-    theorem: &Name,
-) -> Result<Vec<u8>, NoMemory>
-    ensures { IfOk result (λ text. text.items ≡ limit_at_line limit number (codes "theorem" ∷ theorem.now ∷ codes "left 1" ∷ [])) }
-{
-    let mut text = String::new(alloc);
-    let name = limit_name(limit);
-    let theorem = theorem.text();
-    writeln!(text, "limit {name} {number} at theorem {theorem} left 1")?;
-    Ok(text.into_bytes())
-}
-
-// The line of a theorem whose first step does not match.
-pub(crate) fn no_match_text(alloc: Global, theorem: &Name) -> Result<Vec<u8>, NoMemory>
-    ensures { IfOk result (λ text. text.items ≡ (no_match_reply theorem.now).text) }
+fn no_match_text(alloc: Global, theorem: &Name, side: Side, number: u32) -> Result<String, NoMemory>
+    ensures { IfOk result (λ text. string_bytes text ≡ wrong_step_line theorem.now (side_name side) number (codes "comm") (codes "NoMatch")) }
 {
     let mut text = String::new(alloc);
     let theorem = theorem.text();
-    writeln!(text, "wrong {theorem} left 1 comm NoMatch")?;
-    Ok(text.into_bytes())
+    let side = side_name(side);
+    writeln!(text, "wrong {theorem} {side} {number} comm NoMatch")?;
+    Ok(text)
+}
+
+fn ends_text(alloc: Global, theorem: &Name, place: &[u32]) -> Result<String, NoMemory>
+    ensures { IfOk result (λ text. string_bytes text ≡ ends_line theorem.now place.now) }
+{
+    let mut text = String::new(alloc);
+    write!(text, "wrong {} ends ", theorem.text())?;
+    push_place(&mut text, place)?;
+    text.push_str("\n")?;
+    Ok(text)
+}
+
+// The line of a refusal.
+pub(crate) fn refusal_text(alloc: Global, refusal: &Refusal) -> Result<String, NoMemory>
+    ensures { IfOk result (λ text. string_bytes text ≡ (told refusal.now).text) }
+{
+    match refusal {
+        Refusal::Spell(pos, cause) => spell_text(alloc, *pos, *cause),
+        Refusal::Form(pos, cause) => form_text(alloc, *pos, form_cause_name(*cause)),
+        Refusal::NotBuilt(pos) => form_text(alloc, *pos, "NotBuilt"),
+        Refusal::Limit(limit, number, at) => limit_text(alloc, *limit, *number, at),
+        Refusal::Ill(item, ill) => ill_text(alloc, item, ill),
+        Refusal::NoMatch(theorem, side, number) => no_match_text(alloc, theorem, *side, *number),
+        Refusal::Ends(theorem, place) => ends_text(alloc, theorem, place.as_slice()),
+    }
 }

@@ -1,20 +1,17 @@
-ghost use Rattle.std.specs.Prelude.{◌≡◌, ◌≢◌, ◌≤◌, ◌⊎◌, Some, List, ℕ, length, map, string_bytes};
+//! The run of a request: the source is read to its end, and the reply is written to the sink.
+
+ghost use Rattle.std.specs.Prelude.{◌≡◌, ◌≢◌, ◌≤◌, ◌⊎◌, Some, List, ℕ, map, string_bytes};
 ghost use Rattle.std.specs.Io.KnownBytes.{IsAtEnd};
 ghost use Rattle.ipdl_io.specs.Faults.{MayHaveRisen, HasRisen, DidNotRise};
-ghost use Rattle.ipdl_tree.specs.Spelling.{SpellsSource};
-ghost use Rattle.ipdl_tree.specs.Trees.{Placed};
+ghost use Rattle.ipdl_tree.specs.Trees.{Located};
 ghost use Rattle.ipdl_forms.specs.Documents.{Document};
-ghost use Rattle.ipdl_top.specs.Chains.{proved_text};
-ghost use Rattle.ipdl_top.specs.Replies.{usage_reply, fault_reply, IsRead};
-ghost use Rattle.ipdl_top.specs.Runs.{IsVerdict, IsOfWholeSource, IsFinished, IsReplied, IsRepliedFront, IsAcceptedDocument};
-ghost use Rattle.ipdl_top.specs.Scripts.{IsProvedDocument};
-ghost use Rattle.ipdl_top.specs.Summaries.{summary_text};
-ghost use Rattle.ipdl_top.specs.Transfers.{source_limit, GaveSome, GaveTooMany, Took, TookFront};
-ghost use Rattle.ipdl_top.specs.Typed.{IsTypedDocument};
-ghost use Rattle.ipdl_top.specs.Words.{command_words, AreOfNoForm};
+ghost use Rattle.ipdl_top.specs.Replies.{usage_reply, fault_reply};
+ghost use Rattle.ipdl_top.specs.Requests.{Request, request_words, AreOfNoForm, ReadsNothing};
+ghost use Rattle.ipdl_top.specs.Runs.{IsVerdict, IsOfWholeSource, IsFinished, IsReplied, IsRepliedFront, IsAnswered, IsAccepted};
+ghost use Rattle.ipdl_top.specs.Transfers.{GaveSome, GaveTooMany, Took, TookFront};
 
-use crate::answering::answer_to;
-use crate::command::{Command, command_of};
+use crate::answering::reply_to;
+use crate::request::request_in;
 use crate::status::Status;
 use crate::transfer::{ReadStop, read_all, write_all};
 use ipdl_base::NoMemory;
@@ -54,30 +51,20 @@ pub fn run<S: Source, K: Sink>(
     ensures read_cause { result ≡ Status.ReadFault → MayHaveRisen (S.faults source.old) (S.faults source.new) }
     ensures write_cause { result ≡ Status.WriteFault → MayHaveRisen (K.faults sink.old) (K.faults sink.new) }
 
-    // What `check` accepts is a document whose items are well typed and whose scripts prove their
-    // theorems, and each such document is accepted.
-    ensures accepted { map string_bytes words.now ≡ command_words Command.Check → result ≡ Status.Accepted →
-        IsAcceptedDocument Command.Check (S.left source.old) (S.left source.new) (K.taken sink.old) (K.taken sink.new) }
-    ensures complete { (bytes : List ℕ) (t : Placed) (d : Document) → SpellsSource t bytes → IsRead d t → IsTypedDocument d → IsProvedDocument d →
-        length bytes ≤ source_limit → map string_bytes words.now ≡ command_words Command.Check → S.left source.old ≡ Some bytes →
+    // What is accepted is a document with a text that answers the request, and that text was
+    // written; and each such document is accepted.
+    ensures accepted { result ≡ Status.Accepted →
+        IsAccepted (map string_bytes words.now) (S.left source.old) (K.taken sink.old) (K.taken sink.new) }
+    ensures complete { (request : Request) (bytes : List ℕ) (t : Located) (d : Document) (text : List ℕ) → IsAnswered request bytes t d text →
+        map string_bytes words.now ≡ request_words request → S.left source.old ≡ Some bytes →
         DidNotRise (S.faults source.old) (S.faults source.new) → DidNotRise (K.faults sink.old) (K.faults sink.new) →
-        result ≢ Status.Memory → (result ≡ Status.Accepted) × Took (K.taken sink.old) (K.taken sink.new) (proved_text d) }
+        result ≢ Status.Memory → (result ≡ Status.Accepted) × Took (K.taken sink.old) (K.taken sink.new) text }
 
-    // What `types` accepts is a document whose items are well typed, and each such document is accepted.
-    ensures typed { map string_bytes words.now ≡ command_words Command.Types → result ≡ Status.Accepted →
-        IsAcceptedDocument Command.Types (S.left source.old) (S.left source.new) (K.taken sink.old) (K.taken sink.new) }
-    ensures typed_complete { (bytes : List ℕ) (t : Placed) (d : Document) → SpellsSource t bytes → IsRead d t → IsTypedDocument d →
-        length bytes ≤ source_limit → map string_bytes words.now ≡ command_words Command.Types → S.left source.old ≡ Some bytes →
-        DidNotRise (S.faults source.old) (S.faults source.new) → DidNotRise (K.faults sink.old) (K.faults sink.new) →
-        result ≢ Status.Memory → (result ≡ Status.Accepted) × Took (K.taken sink.old) (K.taken sink.new) (summary_text d) }
-
-    // At words of no form nothing is read, and memory is not wanted.
-    ensures unread { AreOfNoForm (map string_bytes words.now) → S.left source.new ≡ S.left source.old }
-    ensures unread_faults { AreOfNoForm (map string_bytes words.now) → S.faults source.new ≡ S.faults source.old }
-    ensures no_memory { AreOfNoForm (map string_bytes words.now) → result ≢ Status.Memory }
-    ensures usage { AreOfNoForm (map string_bytes words.now) → DidNotRise (K.faults sink.old) (K.faults sink.new) → result ≡ Status.Usage }
-    ensures usage_text { AreOfNoForm (map string_bytes words.now) → DidNotRise (K.faults sink.old) (K.faults sink.new) →
-        Took (K.taken sink.old) (K.taken sink.new) usage_reply.text }
+    // At words of no form no memory is wanted, and nothing is read.
+    ensures usage { AreOfNoForm (map string_bytes words.now) → IsFinished Status.Usage result (K.taken sink.old) (K.taken sink.new)
+        (K.faults sink.old) (K.faults sink.new) usage_reply.text }
+    ensures unread { ReadsNothing (map string_bytes words.now) → S.left source.new ≡ S.left source.old }
+    ensures unread_faults { ReadsNothing (map string_bytes words.now) → S.faults source.new ≡ S.faults source.old }
 
     // What follows from a fault.
     ensures read_rose { HasRisen (S.faults source.old) (S.faults source.new) → DidNotRise (K.faults sink.old) (K.faults sink.new) → result ≡ Status.ReadFault }
@@ -89,7 +76,7 @@ pub fn run<S: Source, K: Sink>(
     ensures both_rose_text { HasRisen (S.faults source.old) (S.faults source.new) → TookFront (K.taken sink.old) (K.taken sink.new) fault_reply.text }
 
     // What stands after every answer.
-    ensures read_to_end { IsOfWholeSource result → IsAtEnd (S.left source.new) }
+    ensures read_to_end { IsOfWholeSource (map string_bytes words.now) result → IsAtEnd (S.left source.new) }
     ensures memory_taken { result ≡ Status.Memory → K.taken sink.new ≡ K.taken sink.old }
     ensures memory_faults { result ≡ Status.Memory → K.faults sink.new ≡ K.faults sink.old }
     ensures source_faults { S.faults source.old ≤ S.faults source.new }
@@ -97,7 +84,7 @@ pub fn run<S: Source, K: Sink>(
     ensures gave { GaveSome (S.left source.old) (S.left source.new) }
     ensures took { (text : List ℕ) × TookFront (K.taken sink.old) (K.taken sink.new) text }
 {
-    let Some(command) = command_of(words) else {
+    let Some(request) = request_in(words) else {
         return finish(Status::Usage, b"usage\n", sink);
     };
     let bytes = match read_all(alloc, source) {
@@ -112,7 +99,7 @@ pub fn run<S: Source, K: Sink>(
         }
         Err(ReadStop::Memory) => return Status::Memory,
     };
-    match answer_to(alloc, command, bytes.as_slice()) {
+    match reply_to(alloc, request, bytes.as_slice()) {
         Ok(answer) => finish(answer.status, answer.text.as_slice(), sink),
         Err(NoMemory) => Status::Memory,
     }

@@ -1,3 +1,5 @@
+//! How a run ended, and the exit status that says so.
+
 ghost use Rattle.std.specs.Prelude.{◌≡◌};
 ghost use Rattle.ipdl_top.specs.Statuses.{status_number};
 

@@ -1,11 +1,11 @@
-// The lines that say what a document has, where its items are well typed.
+//! The lines that say what a document has, where its items are well typed.
 
-ghost use Rattle.std.specs.Prelude.{◌≡◌, ◌+◌, [], ◌∷◌, IfOk, length, string_bytes};
+ghost use Rattle.std.specs.Prelude.{◌≡◌, ◌+◌, ◌++◌, [], ◌∷◌, IfOk, OnOk, length, string_bytes};
 ghost use Rattle.std.specs.Fmt.{decimal};
 ghost use Rattle.ipdl_term.specs.Views.{protocol_of};
 ghost use Rattle.ipdl_forms.specs.Documents.{entry_of, document_of};
 ghost use Rattle.ipdl_top.specs.Summaries.{HasPlainCounts, IsCounted, AreCounted, symbol_summary, protocol_summary, assumption_summary, theorem_summary, item_summary, typed_line, summary_text};
-ghost use Rattle.ipdl_top.specs.Words.{line, spaced};
+ghost use Rattle.ipdl_printing.specs.Texts.{line, spaced};
 
 use ipdl_base::NoMemory;
 use ipdl_forms::{AssumeItem, Document, Item, ProtocolItem, TheoremItem};
@@ -14,27 +14,26 @@ use ipdl_term::{channels, coins, proto_nodes};
 use std::alloc::Global;
 
 // A head with a name and two widths.
-fn widths_line(alloc: Global, head: &str, name: &str, from: u8, to: u8) -> Result<String, NoMemory>
-    ensures { IfOk result (λ text. string_bytes text ≡ line (spaced (head.now ∷ name.now ∷ decimal from ∷ decimal to ∷ []))) }
+fn push_widths(text: &mut String, head: &str, name: &str, from: u8, to: u8) -> Result<(), NoMemory>
+    ensures { OnOk result (string_bytes text.new ≡ string_bytes text.old ++ line (spaced (head.now ∷ name.now ∷ decimal from ∷ decimal to ∷ []))) }
 {
-    let mut text = String::new(alloc);
     writeln!(text, "{head} {name} {from} {to}")?;
-    Ok(text)
+    Ok(())
 }
 
-fn symbol_line(alloc: Global, symbol: &Symbol) -> Result<String, NoMemory>
-    ensures { IfOk result (λ text. string_bytes text ≡ symbol_summary symbol.now) }
+fn push_symbol(text: &mut String, symbol: &Symbol) -> Result<(), NoMemory>
+    ensures { OnOk result (string_bytes text.new ≡ string_bytes text.old ++ symbol_summary symbol.now) }
 {
     let head = match &symbol.values {
         None => "fun",
         Some(_) => "table",
     };
-    widths_line(alloc, head, symbol.name.text(), symbol.from, symbol.to)
+    push_widths(text, head, symbol.name.text(), symbol.from, symbol.to)
 }
 
-fn protocol_line(alloc: Global, protocol: &ProtocolItem) -> Result<String, NoMemory>
+fn push_protocol(text: &mut String, protocol: &ProtocolItem) -> Result<(), NoMemory>
     requires { HasPlainCounts (protocol_of protocol.now.body) }
-    ensures { IfOk result (λ text. string_bytes text ≡ protocol_summary protocol.now.name protocol.now.interface (protocol_of protocol.now.body)) }
+    ensures { OnOk result (string_bytes text.new ≡ string_bytes text.old ++ protocol_summary protocol.now.name protocol.now.interface (protocol_of protocol.now.body)) }
 {
     let name = protocol.name.text();
     let inputs = protocol.interface.inputs.as_slice().len();
@@ -42,58 +41,54 @@ fn protocol_line(alloc: Global, protocol: &ProtocolItem) -> Result<String, NoMem
     let channels = channels(&protocol.body);
     let nodes = proto_nodes(&protocol.body);
     let coins = coins(&protocol.body);
-    let mut text = String::new(alloc);
     write!(text, "protocol {name} inputs {inputs} outputs {outputs} ")?;
     writeln!(text, "channels {channels} nodes {nodes} coins {coins}")?;
-    Ok(text)
+    Ok(())
 }
 
-fn assumption_line(alloc: Global, assumption: &AssumeItem) -> Result<String, NoMemory>
-    ensures { IfOk result (λ text. string_bytes text ≡ assumption_summary assumption.now.name assumption.now.left assumption.now.right) }
+fn push_assumption(text: &mut String, assumption: &AssumeItem) -> Result<(), NoMemory>
+    ensures { OnOk result (string_bytes text.new ≡ string_bytes text.old ++ assumption_summary assumption.now.name assumption.now.left assumption.now.right) }
 {
     let name = assumption.name.text();
     let left = assumption.left.text();
     let right = assumption.right.text();
-    let mut text = String::new(alloc);
     writeln!(text, "assume {name} {left} {right}")?;
-    Ok(text)
+    Ok(())
 }
 
-fn theorem_line(alloc: Global, theorem: &TheoremItem) -> Result<String, NoMemory>
-    ensures { IfOk result (λ text. string_bytes text ≡ theorem_summary theorem.now.name theorem.now.left theorem.now.right (length theorem.now.left_steps + length theorem.now.right_steps)) }
+fn push_theorem(text: &mut String, theorem: &TheoremItem) -> Result<(), NoMemory>
+    ensures { OnOk result (string_bytes text.new ≡ string_bytes text.old ++ theorem_summary theorem.now.name theorem.now.left theorem.now.right (length theorem.now.left_steps + length theorem.now.right_steps)) }
 {
     let name = theorem.name.text();
     let left = theorem.left.text();
     let right = theorem.right.text();
     let steps = theorem.left_steps.as_slice().len() as u64
         + theorem.right_steps.as_slice().len() as u64;
-    let mut text = String::new(alloc);
     writeln!(text, "theorem {name} {left} {right} steps {steps}")?;
-    Ok(text)
+    Ok(())
 }
 
-fn item_line(alloc: Global, sig: &Sig, item: &Item) -> Result<String, NoMemory>
+fn push_item(text: &mut String, sig: &Sig, item: &Item) -> Result<(), NoMemory>
     requires { IsCounted (entry_of sig.now item.now) }
-    ensures { IfOk result (λ text. string_bytes text ≡ item_summary (entry_of sig.now item.now)) }
+    ensures { OnOk result (string_bytes text.new ≡ string_bytes text.old ++ item_summary (entry_of sig.now item.now)) }
 {
     match item {
         Item::Symbol(number) => match sig.symbol(*number) {
-            Some(symbol) => symbol_line(alloc, symbol),
-            None => widths_line(alloc, "fun", "", 0, 0),
+            Some(symbol) => push_symbol(text, symbol),
+            None => push_widths(text, "fun", "", 0, 0),
         },
-        Item::Protocol(protocol) => protocol_line(alloc, protocol),
-        Item::Assumption(assumption) => assumption_line(alloc, assumption),
-        Item::Theorem(theorem) => theorem_line(alloc, theorem),
+        Item::Protocol(protocol) => push_protocol(text, protocol),
+        Item::Assumption(assumption) => push_assumption(text, assumption),
+        Item::Theorem(theorem) => push_theorem(text, theorem),
     }
 }
 
 // The last line.
-fn typed_line(alloc: Global, items: usize) -> Result<String, NoMemory>
-    ensures { IfOk result (λ text. string_bytes text ≡ typed_line items) }
+fn push_typed(text: &mut String, items: usize) -> Result<(), NoMemory>
+    ensures { OnOk result (string_bytes text.new ≡ string_bytes text.old ++ typed_line items) }
 {
-    let mut text = String::new(alloc);
     writeln!(text, "typed items {items}")?;
-    Ok(text)
+    Ok(())
 }
 
 // A line for each item, and the last one.
@@ -101,12 +96,10 @@ pub(crate) fn summary_text(alloc: Global, document: &Document) -> Result<Vec<u8>
     requires { AreCounted (document_of document.now).entries }
     ensures { IfOk result (λ text. text.items ≡ summary_text (document_of document.now)) }
 {
-    let mut text = Vec::new(alloc);
+    let mut text = String::new(alloc);
     for item in document.items.as_slice() {
-        let line = item_line(alloc, &document.sig, item)?;
-        text.extend_from_slice(line.as_bytes())?;
+        push_item(&mut text, &document.sig, item)?;
     }
-    let last = typed_line(alloc, document.items.as_slice().len())?;
-    text.extend_from_slice(last.as_bytes())?;
-    Ok(text)
+    push_typed(&mut text, document.items.as_slice().len())?;
+    Ok(text.into_bytes())
 }

@@ -1,3 +1,5 @@
+//! The bytes of a source, read to its end, and those of a text, written whole.
+
 ghost use Rattle.std.specs.Prelude.{◌≡◌, ◌≤◌, true, false, IfOk, IfErr};
 ghost use Rattle.ipdl_io.specs.Faults.{MayHaveRisen};
 ghost use Rattle.ipdl_top.specs.Transfers.{Took, TookFront};
@@ -7,19 +9,19 @@ use ipdl_base::Limit;
 use ipdl_io::{Got, Put, Sink, Source};
 use std::alloc::Global;
 
-/// Why a source was not read to its end.
-#[derive(Clone, Copy, Debug, PartialEq, Eq)]
-pub enum ReadStop {
-    /// The source failed.
+// Why a source was not read to its end.
+#[derive(Clone, Copy)]
+pub(crate) enum ReadStop {
+    // The source failed.
     Fault,
-    /// The source gave a byte more than the limit.
+    // The source gave a byte more than the limit.
     TooMany,
-    /// Memory was refused.
+    // Memory was refused.
     Memory,
 }
 
-/// Reads the source to its end, and at most one byte past the limit.
-pub fn read_all<S: Source>(alloc: Global, source: &mut S) -> Result<Vec<u8>, ReadStop>
+// Reads the source to its end, and at most one byte past the limit.
+pub(crate) fn read_all<S: Source>(alloc: Global, source: &mut S) -> Result<Vec<u8>, ReadStop>
     ensures whole { IfOk result (λ bytes. IsReadWhole bytes.items (S.left source.old) (S.left source.new) (S.faults source.old) (S.faults source.new)) }
     ensures stopped { IfErr result (λ stop. IsReadStopped stop (S.left source.old) (S.left source.new) (S.faults source.old) (S.faults source.new)) }
 {
@@ -44,8 +46,8 @@ pub fn read_all<S: Source>(alloc: Global, source: &mut S) -> Result<Vec<u8>, Rea
     }
 }
 
-/// Writes the whole text, or the front of it where a write fails: whether it was written whole.
-pub fn write_all<K: Sink>(sink: &mut K, text: &[u8]) -> bool
+// Writes the whole text, or the front of it where a write fails: whether it was written whole.
+pub(crate) fn write_all<K: Sink>(sink: &mut K, text: &[u8]) -> bool
     ensures whole { result ≡ true → Took (K.taken sink.old) (K.taken sink.new) text.now }
     ensures calm { result ≡ true → K.faults sink.new ≡ K.faults sink.old }
     ensures front { TookFront (K.taken sink.old) (K.taken sink.new) text.now }

@@ -1,74 +1,69 @@
-// The texts of chains.
+//! The texts of chains.
 
-ghost use Rattle.std.specs.Prelude.{◌≡◌, ◌++◌, IfOk, OnOk, length, string_bytes};
+ghost use Rattle.std.specs.Prelude.{◌≡◌, ◌++◌, ◌<◌, IfOk, OnOk, length, string_bytes};
 ghost use Rattle.ipdl_term.specs.Views.{protocol_of};
 ghost use Rattle.ipdl_forms.specs.Documents.{document_of};
-ghost use Rattle.ipdl_printing.specs.Within.{IsProtocolWithin};
+ghost use Rattle.ipdl_term.specs.Within.{IsProtocolWithin};
 ghost use Rattle.ipdl_top.specs.Chains.{theorem_line, term_line, chain_text, accepted_line, theorem_count};
 ghost use Rattle.ipdl_top.specs.Ends.{exchanged};
 
 use ipdl_base::{Name, NoMemory};
 use ipdl_forms::{Document, Item, TheoremItem};
-use ipdl_printing::show_proto;
+use ipdl_printing::push_proto;
 use ipdl_sig::Sig;
 use ipdl_term::Proto;
 use std::alloc::Global;
 
-// The line that begins the chain of a theorem.
-fn theorem_text(
-    alloc: Global,
+// Writes the line that begins the chain of a theorem.
+fn push_theorem(
+    text: &mut Vec<u8>,
     theorem: &Name,
     left: &Name,
     right: &Name,
-) -> Result<String, NoMemory>
-    ensures { IfOk result (λ text. string_bytes text ≡ theorem_line theorem.now left.now right.now) }
-{
-    let theorem = theorem.text();
-    let left = left.text();
-    let right = right.text();
-    let mut text = String::new(alloc);
-    writeln!(text, "theorem {theorem} {left} {right}")?;
-    Ok(text)
-}
-
-// A term with its number.
-fn push_term(
-    alloc: Global,
-    text: &mut Vec<u8>,
-    sig: &Sig,
-    number: u8,
-    term: &Proto,
 ) -> Result<(), NoMemory>
-    requires { IsProtocolWithin (length sig.now) (protocol_of term.now) }
-    ensures { OnOk result (text.new.items ≡ text.old.items ++ term_line sig.now number (protocol_of term.now)) }
+    ensures { OnOk result (text.new.items ≡ text.old.items ++ theorem_line theorem.now left.now right.now) }
 {
-    let digits = number.to_string(alloc)?;
-    text.extend_from_slice(digits.as_bytes())?;
+    text.extend_from_slice(b"theorem ")?;
+    text.extend_from_slice(theorem.text().as_bytes())?;
     text.push(b' ')?;
-    let shown = show_proto(alloc, sig, term)?;
-    text.extend_from_slice(shown.as_slice())?;
+    text.extend_from_slice(left.text().as_bytes())?;
+    text.push(b' ')?;
+    text.extend_from_slice(right.text().as_bytes())?;
     text.push(b'\n')?;
     Ok(())
 }
 
-// Writes the chain of a theorem: the left protocol, and it with its two parts exchanged.
+// Writes a term with its number, which has one digit.
+fn push_term(text: &mut Vec<u8>, sig: &Sig, number: u8, term: &Proto) -> Result<(), NoMemory>
+    requires digit { number < 10 }
+    requires within { IsProtocolWithin (length sig.now) (protocol_of term.now) }
+    ensures { OnOk result (text.new.items ≡ text.old.items ++ term_line sig.now number (protocol_of term.now)) }
+{
+    text.push(b'0' + number)?;
+    text.push(b' ')?;
+    push_proto(text, sig, term)?;
+    text.push(b'\n')?;
+    Ok(())
+}
+
+// Writes the chain of a theorem: the left protocol, and the right one, which is the left one with
+// its two parts exchanged.
 pub(crate) fn push_chain(
-    alloc: Global,
     text: &mut Vec<u8>,
     sig: &Sig,
     theorem: &TheoremItem,
     left: &Proto,
-    turned: &Proto,
+    right: &Proto,
 ) -> Result<(), NoMemory>
-    requires within { IsProtocolWithin (length sig.now) (protocol_of left.now) }
-    requires turned { protocol_of turned.now ≡ exchanged (protocol_of left.now) }
+    requires left_within { IsProtocolWithin (length sig.now) (protocol_of left.now) }
+    requires right_within { IsProtocolWithin (length sig.now) (protocol_of right.now) }
+    requires meets { exchanged (protocol_of left.now) ≡ protocol_of right.now }
     ensures { OnOk result (text.new.items ≡ text.old.items ++ chain_text sig.now theorem.now.name theorem.now.left theorem.now.right (protocol_of left.now)) }
 {
-    let begin = theorem_text(alloc, &theorem.name, &theorem.left, &theorem.right)?;
-    text.extend_from_slice(begin.as_bytes())?;
-    push_term(alloc, text, sig, 0, left)?;
+    push_theorem(text, &theorem.name, &theorem.left, &theorem.right)?;
+    push_term(text, sig, 0, left)?;
     text.extend_from_slice(b"by rule lr comm ()\n")?;
-    push_term(alloc, text, sig, 1, turned)?;
+    push_term(text, sig, 1, right)?;
     text.extend_from_slice(b"exact 1 assumed 0\n")?;
     Ok(())
 }

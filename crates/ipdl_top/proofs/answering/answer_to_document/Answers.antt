@@ -1,14 +1,21 @@
-use Rattle.std.proofs.Common.{sym, ap, ◌∙◌}
-use Rattle.std.specs.Prelude.{option_map}
+use Rattle.ipdl_tree.specs.Views.{located}
 use Rattle.ipdl_forms.specs.Documents.{document_of}
-use Rattle.ipdl_top.specs.Statuses.{answered}
-use Rattle.ipdl_top.proofs.ItemTypes.{AreTyped-none}
+use Rattle.ipdl_top.specs.Told.{request_of}
+use Rattle.ipdl_top.proofs.ItemTypes.{IsTypedDocument-none}
+use Rattle.ipdl_top.proofs.Named.{HaveSides-spelled}
+use Rattle.ipdl_top.proofs.Stopped.{Settles-ill, Settles-asked}
 use Rattle.ipdl_top.proofs.answering.answer_to_document.Goals as goal
 
-pub answer_to_typed-requires : goal.answer_to_typed-requires
-answer_to_typed-requires c =
-    let d = document_of c.args.document.now in
-    record {
-      typed = AreTyped-none d.symbols d.entries d.entries (sym c.in_ok-answer.ensures ∙ ap (option_map answered) c.in-None.is);
-      read = c.requires;
-    }
+pub answer_to_typed-requires-clause-typed : goal.answer_to_typed-requires-clause-typed
+answer_to_typed-requires-clause-typed c =
+    IsTypedDocument-none (document_of c.args.document.now) (HaveSides-spelled (document_of c.args.document.now) (located c.args.tree.now) c.requires.spelled) c.in-Ok.ensures
+
+pub returns-in-Ok : goal.returns-in-Ok
+returns-in-Ok c =
+    Settles-asked (request_of c.args.request) (document_of c.args.document.now) (located c.args.tree.now) c.answer_to_typed.result
+    (IsTypedDocument-none (document_of c.args.document.now) (HaveSides-spelled (document_of c.args.document.now) (located c.args.tree.now) c.requires.spelled) c.in-Ok.ensures)
+    c.answer_to_typed.ensures
+
+pub returns-in-Err : goal.returns-in-Err
+returns-in-Err c =
+    Settles-ill (request_of c.args.request) (document_of c.args.document.now) (located c.args.tree.now) c.in-Err.stop c.in-Err.ensures

@@ -1,14 +1,14 @@
-use Rattle.ipdl_tree.specs.Views.{placed}
+use Rattle.ipdl_tree.specs.Views.{located}
 use Rattle.ipdl_forms.specs.Documents.{document_of}
-use Rattle.ipdl_top.proofs.Counts.{AreCounted-typed}
-use Rattle.ipdl_top.proofs.Spelled.{HasBodiesWithin-spelled}
+use Rattle.ipdl_top.specs.declared.request.Request.TheVariants.{Check, Types}
+use Rattle.ipdl_top.proofs.Stopped.{Settles-at, Settles-types}
 use Rattle.ipdl_top.proofs.answering.answer_to_typed.Goals as goal
 
-pub answer_to_scripts-requires : goal.answer_to_scripts-requires
-answer_to_scripts-requires c =
-    HasBodiesWithin-spelled (document_of c.args.document.now) (placed c.args.tree.now) c.requires.read.spelled
+pub returns-in-Check : goal.returns-in-Check
+returns-in-Check c =
+    Settles-at c.args.request Check (document_of c.args.document.now) (located c.args.tree.now) c.answer_to_check.result c.in-Check.is c.answer_to_check.ensures
 
-pub summary_text-requires : goal.summary_text-requires
-summary_text-requires c =
-    let d = document_of c.args.document.now in
-    AreCounted-typed d.symbols d.entries d.entries c.requires.read.within.1 c.requires.typed
+pub returns-in-Types : goal.returns-in-Types
+returns-in-Types c =
+    Settles-at c.args.request Types (document_of c.args.document.now) (located c.args.tree.now) c.answer_to_types.result c.in-Types.is
+    (Settles-types (document_of c.args.document.now) (located c.args.tree.now) c.answer_to_types.result c.requires.typed c.answer_to_types.ensures.text c.answer_to_types.ensures.memory)

@@ -2,17 +2,23 @@ use Rattle.std.proofs.Common.{refl, arith}
 use Rattle.std.proofs.lemmas.Fmt.{decimal_digit}
 use Rattle.ipdl_top.specs.Chains.{proved_text, chain_text}
 use Rattle.ipdl_top.specs.Summaries.{summary_text}
-use Rattle.ipdl_top.proofs.Worked.{IsRead-worked, IsProvedDocument-worked}
+use Rattle.ipdl_top.proofs.Worked.{SpellsDocument-worked, IsWithinLimits-worked, IsProvedDocument-worked, HasShortChains-worked}
 use Rattle.ipdl_top.proofs.laws.worked_example.Goals as goal
 
 pub returns-clause-written : goal.returns-clause-written
 returns-clause-written c = rw (decimal_digit 1 (omega arith)) refl
 
-pub returns-clause-read : goal.returns-clause-read
-returns-clause-read c = IsRead-worked
+pub returns-clause-spelled : goal.returns-clause-spelled
+returns-clause-spelled c = SpellsDocument-worked
+
+pub returns-clause-within : goal.returns-clause-within
+returns-clause-within c = IsWithinLimits-worked
 
 pub returns-clause-proved : goal.returns-clause-proved
 returns-clause-proved c = IsProvedDocument-worked
+
+pub returns-clause-short : goal.returns-clause-short
+returns-clause-short c = HasShortChains-worked
 
 pub returns-clause-printed : goal.returns-clause-printed
 unfolding proved_text chain_text

@@ -1,10 +1,7 @@
 use Rattle.std.proofs.Common.{map, string_bytes, sym, subst, inr}
-use Rattle.ipdl_top.specs.declared.command.Command.TheVariants.{Check, Types}
 use Rattle.ipdl_top.specs.Runs.{IsVerdict}
-use Rattle.ipdl_top.specs.Statuses.{answered}
-use Rattle.ipdl_top.proofs.SourceStatuses.{IsOfSource, IsOfSource-within, no_usage, no_read_fault, write_failed, nothing_taken}
-use Rattle.ipdl_top.proofs.Replies.{IsAcceptedDocument-replied, accepted_where_acceptable}
-use Rattle.ipdl_top.proofs.Runs.{IsPlanned, IsReplied-calm, IsReplied-verdict, IsRepliedFront-finished, IsPlanned-usage, IsPlanned-over, IsPlanned-within}
+use Rattle.ipdl_top.proofs.Accepted.{IsAccepted-replied, accepted_where_answered}
+use Rattle.ipdl_top.proofs.Runs.{IsPlanned, IsReplied-calm, IsReplied-verdict, IsRepliedFront-finished, IsPlanned-usage, IsPlanned-over, IsPlanned-within, IsOfSource-replied, of_source, no_usage, no_read_fault, no_memory, write_failed, usage_not_accepted}
 use Rattle.ipdl_top.proofs.runner.run.Goals as goal
 
 -- words of no form
@@ -19,15 +16,17 @@ returns-in_default-clause-verdict g c =
 
 pub returns-in_default-clause-complete : goal.returns-in_default-clause-complete
 returns-in_default-clause-complete g c =
-    λ bytes t d spells read typed proved within form told still calm granted. absurd (c.in_default.ensures.none Check form)
+    λ request bytes t d text answered form told still calm granted. absurd (c.in_default.ensures.none request form)
 
-pub returns-in_default-clause-typed_complete : goal.returns-in_default-clause-typed_complete
-returns-in_default-clause-typed_complete g c =
-    λ bytes t d spells read typed within form told still calm granted. absurd (c.in_default.ensures.none Types form)
+pub returns-in_default-clause-accepted : goal.returns-in_default-clause-accepted
+returns-in_default-clause-accepted g c = λ accepted. absurd (usage_not_accepted c.finish.ensures accepted)
 
 pub returns-in_default-clause-write_rose_text : goal.returns-in_default-clause-write_rose_text
 returns-in_default-clause-write_rose_text g c =
     λ still rose. IsRepliedFront-finished (IsPlanned-usage _ _ c.in_default.ensures.none) c.finish.ensures
+
+pub returns-in_default-clause-read_to_end : goal.returns-in_default-clause-read_to_end
+returns-in_default-clause-read_to_end g c = λ whole. absurd (whole.1 c.in_default.ensures.none)
 
 -- a source of too many bytes
 
@@ -48,63 +47,52 @@ returns-in-Err-TooMany-clause-write_rose_text g c =
 
 -- a source read to its end
 
-planned : (g : _) (c : goal.After-drop-bytes g) → IsPlanned (map string_bytes c.args.words.now) (g.S.Source.left c.args.source.now) c.in-Ok-answer_to.answer.status c.in-Ok-answer_to.answer.text.items
+planned : (g : _) (c : goal.After-drop-bytes g) → IsPlanned (map string_bytes c.args.words.now) (g.S.Source.left c.args.source.now) c.in-Ok-reply_to.answer.status c.in-Ok-reply_to.answer.text.items
 planned g c =
     let whole = c.in-Ok.ensures.whole in
-    let reply = rw c.as_slice.ensures.value at c.in-Ok-answer_to.ensures in
-    IsPlanned-within _ _ _ _ _ _ _ c.in-Some.ensures.form whole.0 whole.1 whole.2 reply
+    let reply = rw c.as_slice.ensures.value at c.in-Ok-reply_to.ensures in
+    IsPlanned-within _ _ _ _ _ _ _ c.in-Some.ensures.form whole.1 whole.2 reply
 
-pub returns-in-Ok-answer_to-clause-replied : goal.returns-in-Ok-answer_to-clause-replied
-returns-in-Ok-answer_to-clause-replied g c =
-    let finished = rw c.as_slice-in-Ok-answer_to.ensures.value at c.finish-in-Ok-answer_to.ensures in
+pub returns-in-Ok-reply_to-clause-replied : goal.returns-in-Ok-reply_to-clause-replied
+returns-in-Ok-reply_to-clause-replied g c =
+    let finished = rw c.as_slice-in-Ok-reply_to.ensures.value at c.finish-in-Ok-reply_to.ensures in
     λ still calm granted. IsReplied-calm (planned g c) finished calm
 
-pub returns-in-Ok-answer_to-clause-verdict : goal.returns-in-Ok-answer_to-clause-verdict
-returns-in-Ok-answer_to-clause-verdict g c =
-    let finished = rw c.as_slice-in-Ok-answer_to.ensures.value at c.finish-in-Ok-answer_to.ensures in
+pub returns-in-Ok-reply_to-clause-verdict : goal.returns-in-Ok-reply_to-clause-verdict
+returns-in-Ok-reply_to-clause-verdict g c =
+    let finished = rw c.as_slice-in-Ok-reply_to.ensures.value at c.finish-in-Ok-reply_to.ensures in
     λ verdict. IsReplied-verdict (planned g c) finished verdict
 
-pub returns-in-Ok-answer_to-clause-write_rose_text : goal.returns-in-Ok-answer_to-clause-write_rose_text
-returns-in-Ok-answer_to-clause-write_rose_text g c =
-    let finished = rw c.as_slice-in-Ok-answer_to.ensures.value at c.finish-in-Ok-answer_to.ensures in
+pub returns-in-Ok-reply_to-clause-write_rose_text : goal.returns-in-Ok-reply_to-clause-write_rose_text
+returns-in-Ok-reply_to-clause-write_rose_text g c =
+    let finished = rw c.as_slice-in-Ok-reply_to.ensures.value at c.finish-in-Ok-reply_to.ensures in
     λ still rose. IsRepliedFront-finished (planned g c) finished
 
-pub returns-in-Ok-answer_to-clause-over_cause : goal.returns-in-Ok-answer_to-clause-over_cause
-returns-in-Ok-answer_to-clause-over_cause g c = λ over. inr c.in-Ok.ensures.whole.2
+pub returns-in-Ok-reply_to-clause-over_cause : goal.returns-in-Ok-reply_to-clause-over_cause
+returns-in-Ok-reply_to-clause-over_cause g c = λ over. inr c.in-Ok.ensures.whole.2
 
-of_source : (g : _) (c : goal.After-drop-bytes g) → IsOfSource (answered c.in-Ok-answer_to.answer)
-of_source g c = IsOfSource-within c.in-Some.command c.as_slice.result.now (answered c.in-Ok-answer_to.answer) c.in-Ok-answer_to.ensures
+pub returns-in-Ok-reply_to-clause-usage_cause : goal.returns-in-Ok-reply_to-clause-usage_cause
+returns-in-Ok-reply_to-clause-usage_cause g c = λ usage. absurd (no_usage (of_source (IsOfSource-replied _ _ _ c.in-Ok-reply_to.ensures) c.finish-in-Ok-reply_to.ensures) usage)
 
-pub returns-in-Ok-answer_to-clause-usage_cause : goal.returns-in-Ok-answer_to-clause-usage_cause
-returns-in-Ok-answer_to-clause-usage_cause g c = λ usage. absurd (no_usage (of_source g c) (rw c.as_slice-in-Ok-answer_to.ensures.value at c.finish-in-Ok-answer_to.ensures) usage)
+pub returns-in-Ok-reply_to-clause-read_cause : goal.returns-in-Ok-reply_to-clause-read_cause
+returns-in-Ok-reply_to-clause-read_cause g c = λ fault. absurd (no_read_fault (of_source (IsOfSource-replied _ _ _ c.in-Ok-reply_to.ensures) c.finish-in-Ok-reply_to.ensures) fault)
 
-pub returns-in-Ok-answer_to-clause-read_cause : goal.returns-in-Ok-answer_to-clause-read_cause
-returns-in-Ok-answer_to-clause-read_cause g c = λ fault. absurd (no_read_fault (of_source g c) (rw c.as_slice-in-Ok-answer_to.ensures.value at c.finish-in-Ok-answer_to.ensures) fault)
+pub returns-in-Ok-reply_to-clause-write_cause : goal.returns-in-Ok-reply_to-clause-write_cause
+returns-in-Ok-reply_to-clause-write_cause g c = λ fault. write_failed (of_source (IsOfSource-replied _ _ _ c.in-Ok-reply_to.ensures) c.finish-in-Ok-reply_to.ensures) fault
 
-pub returns-in-Ok-answer_to-clause-write_cause : goal.returns-in-Ok-answer_to-clause-write_cause
-returns-in-Ok-answer_to-clause-write_cause g c = λ fault. write_failed (of_source g c) (rw c.as_slice-in-Ok-answer_to.ensures.value at c.finish-in-Ok-answer_to.ensures) fault
+pub returns-in-Ok-reply_to-clause-memory_taken : goal.returns-in-Ok-reply_to-clause-memory_taken
+returns-in-Ok-reply_to-clause-memory_taken g c = λ memory. absurd (no_memory (of_source (IsOfSource-replied _ _ _ c.in-Ok-reply_to.ensures) c.finish-in-Ok-reply_to.ensures) memory)
 
-pub returns-in-Ok-answer_to-clause-memory_taken : goal.returns-in-Ok-answer_to-clause-memory_taken
-returns-in-Ok-answer_to-clause-memory_taken g c = λ memory. nothing_taken (of_source g c) (rw c.as_slice-in-Ok-answer_to.ensures.value at c.finish-in-Ok-answer_to.ensures) memory
+pub returns-in-Ok-reply_to-clause-memory_faults : goal.returns-in-Ok-reply_to-clause-memory_faults
+returns-in-Ok-reply_to-clause-memory_faults g c = λ memory. absurd (no_memory (of_source (IsOfSource-replied _ _ _ c.in-Ok-reply_to.ensures) c.finish-in-Ok-reply_to.ensures) memory)
 
-pub returns-in-Ok-answer_to-clause-accepted : goal.returns-in-Ok-answer_to-clause-accepted
-returns-in-Ok-answer_to-clause-accepted g c =
-    let finished = rw c.as_slice-in-Ok-answer_to.ensures.value at c.finish-in-Ok-answer_to.ensures in
-    λ form accepted. IsAcceptedDocument-replied Check _ _ _ _ _ _ form c.in-Ok.ensures.whole.2 (IsReplied-verdict (planned g c) finished (subst IsVerdict (sym accepted) tt)) accepted
+pub returns-in-Ok-reply_to-clause-accepted : goal.returns-in-Ok-reply_to-clause-accepted
+returns-in-Ok-reply_to-clause-accepted g c =
+    let finished = rw c.as_slice-in-Ok-reply_to.ensures.value at c.finish-in-Ok-reply_to.ensures in
+    λ accepted. IsAccepted-replied _ _ _ _ _ _ c.in-Some.ensures.form (IsReplied-verdict (planned g c) finished (subst IsVerdict (sym accepted) tt)) accepted
 
-pub returns-in-Ok-answer_to-clause-complete : goal.returns-in-Ok-answer_to-clause-complete
-returns-in-Ok-answer_to-clause-complete g c =
-    let finished = rw c.as_slice-in-Ok-answer_to.ensures.value at c.finish-in-Ok-answer_to.ensures in
-    λ bytes t d spells read typed proved within form told still calm granted.
-    accepted_where_acceptable Check _ bytes t d _ _ _ _ spells read (typed, proved) within form told (IsReplied-calm (planned g c) finished calm)
-
-pub returns-in-Ok-answer_to-clause-typed : goal.returns-in-Ok-answer_to-clause-typed
-returns-in-Ok-answer_to-clause-typed g c =
-    let finished = rw c.as_slice-in-Ok-answer_to.ensures.value at c.finish-in-Ok-answer_to.ensures in
-    λ form accepted. IsAcceptedDocument-replied Types _ _ _ _ _ _ form c.in-Ok.ensures.whole.2 (IsReplied-verdict (planned g c) finished (subst IsVerdict (sym accepted) tt)) accepted
-
-pub returns-in-Ok-answer_to-clause-typed_complete : goal.returns-in-Ok-answer_to-clause-typed_complete
-returns-in-Ok-answer_to-clause-typed_complete g c =
-    let finished = rw c.as_slice-in-Ok-answer_to.ensures.value at c.finish-in-Ok-answer_to.ensures in
-    λ bytes t d spells read typed within form told still calm granted.
-    accepted_where_acceptable Types _ bytes t d _ _ _ _ spells read typed within form told (IsReplied-calm (planned g c) finished calm)
+pub returns-in-Ok-reply_to-clause-complete : goal.returns-in-Ok-reply_to-clause-complete
+returns-in-Ok-reply_to-clause-complete g c =
+    let finished = rw c.as_slice-in-Ok-reply_to.ensures.value at c.finish-in-Ok-reply_to.ensures in
+    λ request bytes t d text answered form told still calm granted.
+    accepted_where_answered request _ bytes t d text _ _ _ _ answered form told (IsReplied-calm (planned g c) finished calm)

@@ -1,0 +1,183 @@
+//! Why a source, or what is asked of it, is refused, and why a call stopped.
+
+ghost use Rattle.std.specs.Prelude.{◌≡◌, List, Some, option_map, codes};
+ghost use Rattle.ipdl_typing.specs.Answers.{TellsFirstFailure};
+ghost use Rattle.ipdl_typing.specs.Checks.{Failure, first_failure};
+ghost use Rattle.ipdl_top.specs.Lines.{at_item, at_theorem, limit_line};
+ghost use Rattle.ipdl_top.specs.Refusals.{ill, no_match, step_too_deep, ends_differ};
+ghost use Rattle.ipdl_top.specs.Statuses.{over, refusal_of, kind_status};
+ghost use Rattle.ipdl_top.specs.Told.{side_name, told, tree_stop, document_stop, IsStop};
+ghost use Rattle.ipdl_top.specs.declared.refusal.Stop.TheVariants.{Memory};
+
+use crate::status::Status;
+use ipdl_base::{Limit, List, Name, NoMemory, Pos};
+use ipdl_forms::{DocFault, FormCause};
+use ipdl_tree::{SpellCause, TreeFault};
+use ipdl_typing::{Ill, TypeFault};
+use std::alloc::Global;
+
+// The greatest depth of a protocol in print.
+pub(crate) const GREATEST_DEPTH: u64 = 190;
+
+// A side of a theorem.
+#[derive(Clone, Copy)]
+pub(crate) enum Side {
+    Left,
+    Right,
+}
+
+// Where a limit is passed. The first step of a side has the number 1.
+#[derive(Drop)]
+pub(crate) enum Where {
+    Byte(Pos),
+    Item(Name),
+    Theorem(Name),
+    Step(Name, Side, u32),
+}
+
+// Why something is refused.
+#[derive(Drop)]
+pub(crate) enum Refusal {
+    // The bytes spell no tree.
+    Spell(Pos, SpellCause),
+    // The tree is not of the form that is asked.
+    Form(Pos, FormCause),
+    // The theorem has a script of a form that is not built.
+    NotBuilt(Pos),
+    // A count passes this number.
+    Limit(Limit, u64, Where),
+    // The item is ill typed.
+    Ill(Name, Ill),
+    // The step of the theorem does not match.
+    NoMatch(Name, Side, u32),
+    // The two ends of the theorem differ first at this place.
+    Ends(Name, List<u32>),
+}
+
+impl Refusal {
+    // The status that says of what kind it is.
+    pub(crate) fn status(&self) -> Status
+        ensures { result ≡ kind_status (told self.now).kind }
+    {
+        match self {
+            Refusal::Spell(_, _)
+            | Refusal::Form(_, _)
+            | Refusal::NotBuilt(_)
+            | Refusal::Ill(_, _) => Status::BadSource,
+            Refusal::Limit(_, _, _) => Status::OverLimit,
+            Refusal::NoMatch(_, _, _) | Refusal::Ends(_, _) => Status::WrongStep,
+        }
+    }
+}
+
+// Why a call stopped before its end.
+#[derive(Drop)]
+pub(crate) enum Stop {
+    Refused(Refusal),
+    Memory,
+}
+
+impl From<NoMemory> for Stop {
+    ghost from_gives = { λ _ stop. stop ≡ Memory };
+
+    fn from(_error: NoMemory) -> Stop {
+        Stop::Memory
+    }
+}
+
+// Where a call stops at a fault of a tree.
+pub(crate) fn tree_stop(fault: TreeFault) -> Stop
+    ensures { result ≡ tree_stop fault }
+{
+    match fault {
+        TreeFault::Spell { pos, cause } => Stop::Refused(Refusal::Spell(pos, cause)),
+        TreeFault::Deep { pos } => Stop::Refused(Refusal::Limit(
+            Limit::Depth,
+            Limit::Depth.number(),
+            Where::Byte(pos),
+        )),
+        TreeFault::Memory => Stop::Memory,
+    }
+}
+
+// Where a call stops at a fault of a document.
+pub(crate) fn document_stop(fault: DocFault) -> Stop
+    ensures { result ≡ document_stop fault }
+{
+    match fault {
+        DocFault::Form { pos, cause } => Stop::Refused(Refusal::Form(pos, cause)),
+        DocFault::Over { limit, pos } => {
+            Stop::Refused(Refusal::Limit(limit, limit.number(), Where::Byte(pos)))
+        }
+        DocFault::Memory => Stop::Memory,
+    }
+}
+
+// ---- with the name of what is refused
+
+// The item passes this number.
+pub(crate) fn over_at_item(alloc: Global, limit: Limit, number: u64, item: &Name) -> Stop
+    ensures { IsStop result (Some (refusal_of over (limit_line limit number (at_item item.now)))) }
+{
+    match item.copy(alloc) {
+        Ok(item) => Stop::Refused(Refusal::Limit(limit, number, Where::Item(item))),
+        Err(NoMemory) => Stop::Memory,
+    }
+}
+
+// The theorem passes this number.
+pub(crate) fn over_at_theorem(alloc: Global, limit: Limit, number: u64, theorem: &Name) -> Stop
+    ensures { IsStop result (Some (refusal_of over (limit_line limit number (at_theorem theorem.now)))) }
+{
+    match theorem.copy(alloc) {
+        Ok(theorem) => Stop::Refused(Refusal::Limit(limit, number, Where::Theorem(theorem))),
+        Err(NoMemory) => Stop::Memory,
+    }
+}
+
+// What the step gives is printed too deep.
+pub(crate) fn step_too_deep(alloc: Global, theorem: &Name, side: Side, number: u32) -> Stop
+    ensures { IsStop result (Some (step_too_deep theorem.now (side_name side) number)) }
+{
+    match theorem.copy(alloc) {
+        Ok(theorem) => Stop::Refused(Refusal::Limit(
+            Limit::Depth,
+            GREATEST_DEPTH,
+            Where::Step(theorem, side, number),
+        )),
+        Err(NoMemory) => Stop::Memory,
+    }
+}
+
+// The step does not match.
+pub(crate) fn no_match(alloc: Global, theorem: &Name, side: Side, number: u32) -> Stop
+    ensures { IsStop result (Some (no_match theorem.now (side_name side) number (codes "comm"))) }
+{
+    match theorem.copy(alloc) {
+        Ok(theorem) => Stop::Refused(Refusal::NoMatch(theorem, side, number)),
+        Err(NoMemory) => Stop::Memory,
+    }
+}
+
+// The ends differ first at this place.
+pub(crate) fn ends_differ(alloc: Global, theorem: &Name, place: List<u32>) -> Stop
+    ensures { IsStop result (Some (ends_differ theorem.now place)) }
+{
+    match theorem.copy(alloc) {
+        Ok(theorem) => Stop::Refused(Refusal::Ends(theorem, place)),
+        Err(NoMemory) => Stop::Memory,
+    }
+}
+
+// A check of types says no.
+pub(crate) fn ill(alloc: Global, item: &Name, fault: TypeFault) -> Stop
+    ensures { (failures : List Failure) → TellsFirstFailure fault failures → IsStop result (option_map (ill item.now) (first_failure failures)) }
+{
+    match fault {
+        TypeFault::Ill(ill) => match item.copy(alloc) {
+            Ok(item) => Stop::Refused(Refusal::Ill(item, ill)),
+            Err(NoMemory) => Stop::Memory,
+        },
+        TypeFault::Memory => Stop::Memory,
+    }
+}

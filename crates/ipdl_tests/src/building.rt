@@ -21,26 +21,8 @@ pub(crate) fn xor(alloc: Global, a: Option<Expr>, b: Option<Expr>) -> Option<Exp
     Some(Expr::Xor(Box::new(alloc, a?).ok()?, Box::new(alloc, b?).ok()?))
 }
 
-pub(crate) fn cat(alloc: Global, a: Option<Expr>, b: Option<Expr>) -> Option<Expr> {
-    Some(Expr::Cat(Box::new(alloc, a?).ok()?, Box::new(alloc, b?).ok()?))
-}
-
 pub(crate) fn cut(alloc: Global, from: u8, count: u8, a: Option<Expr>) -> Option<Expr> {
     Some(Expr::Cut(from, count, Box::new(alloc, a?).ok()?))
-}
-
-pub(crate) fn same(alloc: Global, a: Option<Expr>, b: Option<Expr>) -> Option<Expr> {
-    Some(Expr::Same(Box::new(alloc, a?).ok()?, Box::new(alloc, b?).ok()?))
-}
-
-pub(crate) fn mux(
-    alloc: Global,
-    c: Option<Expr>,
-    a: Option<Expr>,
-    b: Option<Expr>,
-) -> Option<Expr> {
-    let a = Box::new(alloc, a?).ok()?;
-    Some(Expr::Mux(Box::new(alloc, c?).ok()?, a, Box::new(alloc, b?).ok()?))
 }
 
 pub(crate) fn ret(e: Option<Expr>) -> Option<React> {
@@ -96,14 +78,4 @@ pub(crate) fn left(alloc: Global, inner: Option<Ctx>) -> Option<Ctx> {
 // A hole beside `(nil)`, which stands on its left.
 pub(crate) fn right(alloc: Global, inner: Option<Ctx>) -> Option<Ctx> {
     Some(Ctx::Right(Proto::Nil, Box::new(alloc, inner?).ok()?))
-}
-
-pub(crate) fn hide_hole(
-    alloc: Global,
-    channel: &str,
-    width: u8,
-    inner: Option<Ctx>,
-) -> Option<Ctx> {
-    let name = Name::read(alloc, channel).ok()?;
-    Some(Ctx::Hide(name, width, Box::new(alloc, inner?).ok()?))
 }

@@ -5,11 +5,11 @@
 #[cfg(test)]
 mod building;
 #[cfg(test)]
-mod documents;
-#[cfg(test)]
 mod printing;
 #[cfg(test)]
 mod reading;
+#[cfg(test)]
+mod symbols;
 #[cfg(test)]
 mod terms;
 #[cfg(test)]

@@ -1,6 +1,6 @@
-use crate::building::{
-    apply, bind, cat, cond, cut, flip, hide, lit, mux, out, par, read, ret, same, var, xor, zeros,
-};
+//! Types: the calls of the type checker, at terms that no document has.
+
+use crate::building::{apply, bind, cut, flip, hide, lit, read, ret, var, zeros};
 use ipdl_base::{List, Name};
 use ipdl_sig::Sig;
 use ipdl_term::{Expr, Interface, Port, Proto, React};
@@ -113,7 +113,7 @@ fn proto_text(alloc: Global, sig: &Sig, term: &Option<Proto>) -> Result<String, 
     }
 }
 
-// ---- tables
+// ---- tables: what no document that is read has, and one row that is typed
 
 #[test]
 fn expressions(rt: HostRuntime) -> Result<(), Fail> {
@@ -124,28 +124,9 @@ fn expressions(rt: HostRuntime) -> Result<(), Fail> {
         (var(1), "3"),
         (var(2), "Unbound 2"),
         (Some(Expr::Outer(0)), "Unbound 0"),
-        (lit(2), "2"),
-        (apply(alloc, 0, lit(2)), "1"),
-        (apply(alloc, 0, lit(3)), "0 Width 2 3"),
         (apply(alloc, 1, var(9)), "NoSymbol 1"),
         (apply(alloc, 0, var(9)), "0 Unbound 9"),
-        (xor(alloc, lit(2), lit(2)), "2"),
-        (xor(alloc, lit(2), lit(3)), "1 Width 2 3"),
-        (xor(alloc, var(8), var(9)), "0 Unbound 8"),
-        (
-            xor(alloc, lit(1), xor(alloc, lit(2), lit(3))),
-            "1 1 Width 2 3",
-        ),
-        (cat(alloc, lit(128), lit(0)), "128"),
-        (cat(alloc, lit(128), lit(1)), "Width 128 129"),
-        (cut(alloc, 1, 2, lit(3)), "2"),
-        (cut(alloc, 1, 3, lit(3)), "0 Width 4 3"),
         (cut(alloc, 255, 255, lit(3)), "0 Width 510 3"),
-        (same(alloc, lit(2), lit(2)), "1"),
-        (same(alloc, lit(2), lit(1)), "1 Width 2 1"),
-        (mux(alloc, lit(1), lit(3), lit(3)), "3"),
-        (mux(alloc, lit(2), var(9), lit(3)), "0 Width 1 2"),
-        (mux(alloc, lit(1), lit(3), lit(4)), "2 Width 3 4"),
     ] {
         let got = expr_text(alloc, &sig, term)?;
         assert_eq!(rt; got.as_str(), *want);
@@ -153,28 +134,16 @@ fn expressions(rt: HostRuntime) -> Result<(), Fail> {
     Ok(())
 }
 
+// Of two ports of one name the last one counts.
 #[test]
 fn reactions(rt: HostRuntime) -> Result<(), Fail> {
     let alloc = rt.alloc();
     let sig = Sig::empty(alloc);
     let scope = ports(alloc, &[("c", 2), ("d", 4), ("d", 1)])?;
     for (term, want) in &[
-        (ret(var(0)), "3"),
-        (ret(var(1)), "0 Unbound 1"),
-        (flip(128), "128"),
-        (flip(129), "Width 128 129"),
-        (read(alloc, "c"), "2"),
         (read(alloc, "d"), "1"),
-        (read(alloc, "e"), "Unwritten e"),
-        (cond(alloc, lit(1), flip(2), read(alloc, "c")), "2"),
-        (cond(alloc, lit(2), flip(200), flip(200)), "0 Width 1 2"),
-        (
-            cond(alloc, lit(1), flip(1), read(alloc, "c")),
-            "2 Width 1 2",
-        ),
-        (bind(alloc, 2, read(alloc, "c"), ret(var(0))), "2"),
+        (flip(129), "Width 128 129"),
         (bind(alloc, 2, read(alloc, "c"), ret(var(1))), "3"),
-        (bind(alloc, 3, read(alloc, "c"), ret(var(9))), "0 Width 3 2"),
         (
             bind(alloc, 2, read(alloc, "c"), ret(var(2))),
             "1 0 Unbound 2",
@@ -192,98 +161,11 @@ fn protocols(rt: HostRuntime) -> Result<(), Fail> {
     let sig = Sig::empty(alloc);
     for (term, want) in &[
         (zeros(alloc, "c", 1), "yes"),
-        (out(alloc, "c", read(alloc, "i")), "0 Width 1 3"),
-        (zeros(alloc, "c", 2), "0 Width 1 2"),
-        (Some(Proto::Nil), "Missing c"),
-        (zeros(alloc, "i", 3), "NotOutput i"),
-        (zeros(alloc, "d", 1), "NotOutput d"),
-        (
-            par(alloc, zeros(alloc, "c", 1), zeros(alloc, "c", 9)),
-            "1 Twice c",
-        ),
-        (hide(alloc, "d", 1, zeros(alloc, "c", 1)), "NewUnwritten d"),
         (hide(alloc, "d", 129, zeros(alloc, "e", 1)), "Width 128 129"),
     ] {
         let got = proto_text(alloc, &sig, term)?;
         assert_eq!(rt; got.as_str(), *want);
     }
-    Ok(())
-}
-
-// A hidden channel is another one than that of its name outside.
-#[test]
-fn hidden_channels(rt: HostRuntime) -> Result<(), Fail> {
-    let alloc = rt.alloc();
-    let sig = Sig::empty(alloc);
-    for (term, want) in &[
-        (hide(alloc, "c", 2, zeros(alloc, "c", 2)), "Missing c"),
-        (hide(alloc, "c", 2, zeros(alloc, "c", 1)), "0 0 Width 2 1"),
-        (
-            par(
-                alloc,
-                hide(alloc, "c", 2, zeros(alloc, "c", 2)),
-                zeros(alloc, "c", 1),
-            ),
-            "yes",
-        ),
-        (
-            par(
-                alloc,
-                zeros(alloc, "c", 1),
-                hide(alloc, "c", 2, zeros(alloc, "c", 2)),
-            ),
-            "yes",
-        ),
-        (
-            hide(
-                alloc,
-                "i",
-                1,
-                par(
-                    alloc,
-                    zeros(alloc, "i", 1),
-                    par(alloc, zeros(alloc, "c", 1), zeros(alloc, "i", 1)),
-                ),
-            ),
-            "0 1 1 Twice i",
-        ),
-    ] {
-        let got = proto_text(alloc, &sig, term)?;
-        assert_eq!(rt; got.as_str(), *want);
-    }
-    Ok(())
-}
-
-#[test]
-fn sides(rt: HostRuntime) -> Result<(), Fail> {
-    let alloc = rt.alloc();
-    let left = interface(alloc, &[("c", 1), ("d", 2)])?;
-    for (outputs, want) in [
-        ([("d", 2), ("c", 1)], "yes"),
-        ([("c", 2), ("d", 2)], "Interface c"),
-        ([("c", 1), ("e", 2)], "Interface d"),
-        ([("i", 3), ("c", 1)], "Interface d"),
-    ] {
-        let right = interface(alloc, &outputs)?;
-        let got = unit_text(alloc, check_sides(alloc, &left, &right))?;
-        assert_eq!(rt; got.as_str(), want);
-    }
-    let fewer = interface(alloc, &[("d", 2)])?;
-    let got = unit_text(alloc, check_sides(alloc, &fewer, &left))?;
-    assert_eq!(rt; got.as_str(), "Interface c");
-    Ok(())
-}
-
-#[test]
-fn sides_with_a_name_twice(rt: HostRuntime) -> Result<(), Fail> {
-    let alloc = rt.alloc();
-    let left = interface(alloc, &[("c", 1), ("c", 2)])?;
-    let right = interface(alloc, &[("c", 2), ("c", 1), ("c", 2)])?;
-    let got = unit_text(alloc, check_sides(alloc, &left, &right))?;
-    assert_eq!(rt; got.as_str(), "yes");
-    let fewer = interface(alloc, &[("c", 1)])?;
-    let got = unit_text(alloc, check_sides(alloc, &fewer, &left))?;
-    assert_eq!(rt; got.as_str(), "Interface c");
     Ok(())
 }
 

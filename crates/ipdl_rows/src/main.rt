@@ -135,7 +135,7 @@ fn main(rt: HostRuntime) -> io::Result<()> {
         let (status, answer) = answered(alloc, row)?;
         let wanted = bytes_of(alloc, row.answer)?;
         if row.status.parse::<u8>().ok() == Some(status) && answer.as_slice() == wanted.as_slice() {
-            count += 1;
+            count = count.saturating_add(1);
         } else {
             let text = String::from_utf8_lossy(alloc, answer.as_slice())?;
             println!(rt; "answered with {status} and {text:?}: {line}")?;

@@ -6,7 +6,7 @@ use Rattle.std.specs.Cmp.{IsEquivalence, booleans_Decides, decided}
 use Rattle.std.specs.Cmp.Lexicographic.{pointwise_decides}
 use Rattle.std.specs.Int.{bit_at}
 use Rattle.std.proofs.Math.Nat.{mod-one}
-use Rattle.std.proofs.lemmas.Nat.{mod-pow-add}
+use Rattle.std.proofs.lemmas.Nat.{mod-pow-add, div-mul-add, mod-mul-add}
 use Rattle.std.proofs.lemmas.Nat.Bits.{bit_at-lt}
 use Rattle.ipdl_base.specs.Bits.{bit, bits_of, bit_value, number_of, same_bits}
 
@@ -45,6 +45,10 @@ number_of-bits_of_below width n below = number_of-bits_of width n ∙ mod-eq_of_
 pub width_and_number-bits_of : {X : Type 0} (width n : ℕ) → n < 2 ^ width → (make : ℕ → ℕ → X) → make (length (bits_of width n)) (number_of (bits_of width n)) ≡ make width n
 width_and_number-bits_of width n below make =
     ap₂ make (length-bits_of width n) (number_of-bits_of_below width n below)
+
+-- the two halves of a number give back what it was made of
+pub halves_of_sum : {X : Type 0} (high low : ℕ) → low < 2 ^ 64 → (make : ℕ → ℕ → X) → make ((high * 2 ^ 64 + low) / 2 ^ 64) ((high * 2 ^ 64 + low) % 2 ^ 64) ≡ make high low
+halves_of_sum high low below make = ap₂ make (div-mul-add high (2 ^ 64) low below) (mod-mul-add high (2 ^ 64) low below)
 
 -- the test of two lists of bits is true exactly where they are equal, so it is an equivalence
 pub same_bits-Decides : (xs ys : List Bool) → Decides (same_bits xs ys) (xs ≡ ys)

@@ -6,13 +6,53 @@ ghost use Rattle.ipdl_base.specs.Bits.{bits_of, number_of, xor_bits, and_bits, n
 
 use std::marker::Model;
 
+// A number of at most 128 bits in two halves, so that it stands at any multiple of eight bytes: a
+// tree and an expression are a third smaller by it than with a `u128`.
+#[derive(Clone, Copy, Debug)]
+struct Halves {
+    high: u64,
+    low: u64,
+}
+
+impl Model for Halves {
+    ghost use Rattle.std.specs.Prelude.{ℕ, ◌+◌, ◌*◌, ◌/◌, ◌%◌, ◌^◌, ◌<◌};
+    ghost use Rattle.ipdl_base.specs.BitsLaws.{halves_of_sum};
+
+    ghost Value = { ℕ };
+
+    ghost view = { λ h. h.high * 2 ^ 64 + h.low };
+
+    ghost invariant = { λ h. h.low < 2 ^ 64 };
+
+    ghost inverse = { λ n. record { high = n / 2 ^ 64; low = n % 2 ^ 64 } };
+
+    ghost inverse_ok = { λ h within. halves_of_sum h.high h.low within (λ a b. record { high = a; low = b }) };
+}
+
+impl Halves {
+    fn of(number: u128) -> Halves
+        ensures { result ≡ number }
+    {
+        Halves {
+            high: (number >> 64) as u64,
+            low: (number % (1 << 64)) as u64,
+        }
+    }
+
+    fn number(self) -> u128
+        ensures { result ≡ self }
+    {
+        (u128::from(self.high) << 64) + u128::from(self.low)
+    }
+}
+
 /// At most 128 bits, which contracts see as the list of the bits, the first on the left. The
 /// first bit is the highest one of the number that the bits spell. The number of bits is the
 /// width, and it counts: `01` and `1` are different.
 #[derive(Clone, Copy, Debug)]
 pub struct Bits {
     width: u8,
-    value: u128,
+    value: Halves,
 }
 
 impl Model for Bits {
@@ -76,7 +116,10 @@ impl Bits {
         if width > 128 || value > ones(width) {
             return None;
         }
-        Some(Bits { width, value })
+        Some(Bits {
+            width,
+            value: Halves::of(value),
+        })
     }
 
     /// How many bits there are.
@@ -91,7 +134,7 @@ impl Bits {
     pub fn value(&self) -> u128
         ensures { result ≡ number_of self.now }
     {
-        self.value
+        self.value.number()
     }
 
     /// Bit by bit, whether the two differ. None where the widths differ.
@@ -103,7 +146,7 @@ impl Bits {
         }
         Some(Bits {
             width: self.width,
-            value: self.value ^ other.value,
+            value: Halves::of(self.value.number() ^ other.value.number()),
         })
     }
 
@@ -116,7 +159,7 @@ impl Bits {
         }
         Some(Bits {
             width: self.width,
-            value: self.value & other.value,
+            value: Halves::of(self.value.number() & other.value.number()),
         })
     }
 
@@ -126,7 +169,7 @@ impl Bits {
     {
         Bits {
             width: self.width,
-            value: self.value ^ ones(self.width),
+            value: Halves::of(self.value.number() ^ ones(self.width)),
         }
     }
 
@@ -137,9 +180,10 @@ impl Bits {
         if other.width > 128 - self.width {
             return None;
         }
+        let (high, low) = (self.value.number(), other.value.number());
         Some(Bits {
             width: self.width + other.width,
-            value: joined(self.value, self.width, other.value, other.width),
+            value: Halves::of(joined(high, self.width, low, other.width)),
         })
     }
 
@@ -159,12 +203,15 @@ impl Bits {
         }
         // A shift by all 128 places is not allowed; it would leave no bits.
         if count == 0 {
-            return Ok(Bits { width: 0, value: 0 });
+            return Ok(Bits {
+                width: 0,
+                value: Halves::of(0),
+            });
         }
         let behind = self.width - from - count;
         Ok(Bits {
             width: count,
-            value: (self.value >> behind) & ones(count),
+            value: Halves::of((self.value.number() >> behind) & ones(count)),
         })
     }
 
@@ -181,9 +228,10 @@ impl Bits {
     fn of_bool(bit: bool) -> Bits
         ensures { result ≡ bit ∷ [] }
     {
+        let value = if bit { 1 } else { 0 };
         Bits {
             width: 1,
-            value: if bit { 1 } else { 0 },
+            value: Halves::of(value),
         }
     }
 }
@@ -201,7 +249,7 @@ impl PartialEq for Bits {
         ensures value { result ≡ same_bits self.now other.now }
         ensures same { IsTrue result ↔ (self.now ≡ other.now) }
     {
-        self.width == other.width && self.value == other.value
+        self.width == other.width && self.value.number() == other.value.number()
     }
 }
 

@@ -89,10 +89,19 @@ impl Name {
         if !is_name(text) {
             return Err(NameFault::Bad);
         }
-        match String::from_str(alloc, text) {
-            Ok(text) => Ok(Name { text }),
+        match Name::of_text(alloc, text) {
+            Ok(name) => Ok(name),
             Err(_) => Err(NameFault::Memory),
         }
+    }
+
+    /// The name of a text that a caller knows to be one. The text is not tested again.
+    pub fn of_text(alloc: Global, text: &str) -> Result<Name, NoMemory>
+        requires { IsTrue (is_name text.now) }
+        ensures { IfOk result (λ n. n ≡ text.now) }
+    {
+        let text = String::from_str(alloc, text)?;
+        Ok(Name { text })
     }
 
     /// The name's text.
@@ -107,8 +116,7 @@ impl Name {
     pub fn copy(&self, alloc: Global) -> Result<Name, NoMemory>
         ensures { IfOk result (λ n. n ≡ self.now) }
     {
-        let text = String::from_str(alloc, self.text.as_str())?;
-        Ok(Name { text })
+        Name::of_text(alloc, self.text())
     }
 }
 

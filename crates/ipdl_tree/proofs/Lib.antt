@@ -3,6 +3,7 @@
 mod Beginnings
 mod Characters
 mod Names
+mod Openings
 mod Starts
 -- The code against reading on lists.
 mod LoopSteps

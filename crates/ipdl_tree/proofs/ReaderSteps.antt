@@ -1,26 +1,16 @@
 -- The reader's state after one step, in the form of the contracts of its methods.
-use Rattle.std.proofs.Common.{◌≡◌, ℕ, suc, List, [], ◌∷◌, ◌++◌, length, map, reverse, get_or, set, take, drop, Option, Result, Err, sym, ap, ap₂, ◌∙◌, subst, arith}
-use Rattle.std.proofs.Math.Seq.{take-length, take-suc, take-suc-set}
-use Rattle.std.proofs.lemmas.List.{length-drop, length-set, map-append, reverse-append}
+use Rattle.std.proofs.Common.{◌≡◌, ℕ, List, drop, Result, Err, sym, subst, arith}
+use Rattle.std.proofs.lemmas.List.{length-drop}
 use Rattle.ipdl_tree.specs.declared.character.Beginning.{Beginning}
 use Rattle.ipdl_tree.specs.declared.fault.TreeFault.{TreeFault}
-use Rattle.ipdl_tree.specs.declared.reader.OpenGroup.{OpenGroup}
 use Rattle.ipdl_tree.specs.declared.token.OpenToken.{OpenToken}
 use Rattle.ipdl_tree.specs.declared.token.OpenToken.TheVariants as tokens
-use Rattle.ipdl_tree.specs.declared.tree.Tree.{Tree}
 use Rattle.ipdl_tree.specs.Trees.{Located}
 use Rattle.ipdl_tree.specs.Causes.{Cause}
-use Rattle.ipdl_tree.specs.Reading.{no_token, Group, Reading, IsNameToken, add_to, refusal_of_any_beginning, after_beginning, unless, whole}
+use Rattle.ipdl_tree.specs.Reading.{Reading, IsNameToken, refusal_of_any_beginning, after_beginning, unless, whole}
 use Rattle.ipdl_tree.specs.Faults.{Fails, Gives}
-use Rattle.ipdl_tree.specs.ReaderViews.{token_view, group_view, groups_view, IsTokenAfter}
-use Rattle.ipdl_tree.specs.Views.{located}
+use Rattle.ipdl_tree.specs.ReaderViews.{token_view, IsTokenAfter}
 use Rattle.ipdl_tree.proofs.Names.{length-is_name}
-
-abbrev pub between : List Group → Option Located → Reading
-between groups complete = record { token = no_token; groups = groups; complete = complete }
-
-abbrev group_of : ℕ → List Located → Group
-group_of start parts = record { start = start; parts = parts }
 
 -- a step from a state, told of an equal one
 pub begun : {X : Type 0} (view : X → Reading) (result : Result X TreeFault) (r q : Reading) (n c : ℕ) (b d : Beginning) → r ≡ q → b ≡ d → Gives view result (unless (refusal_of_any_beginning r b) n (after_beginning r n c b)) → Gives view result (unless (refusal_of_any_beginning q d) n (after_beginning q n c d))
@@ -72,26 +62,3 @@ Fails-same {Y} fault equal read same ef er given =
     let P : Result Y (ℕ × Cause) → Type 0 = Fails fault in
     let Q : TreeFault → Type 0 = λ y. Fails y same in
     subst P (sym er) (subst Q (sym ef) given)
-
--- ---- the innermost group
-
-groups_view-push : (gs : List OpenGroup) (g : OpenGroup) → groups_view (gs ++ g ∷ []) ≡ group_view g ∷ groups_view gs
-groups_view-push gs g = ap reverse (map-append group_view gs (g ∷ [])) ∙ reverse-append (map group_view gs) (group_view g ∷ [])
-
-groups_view-last : (gs : List OpenGroup) (i : ℕ) (g : OpenGroup) → suc i ≡ length gs → g ≡ get_or gs i g → groups_view gs ≡ group_view g ∷ groups_view (take i gs)
-groups_view-last gs i g long here =
-    ap groups_view (sym (take-length gs) ∙ ap (λ n. take n gs) (sym long) ∙ take-suc gs i g (omega arith) ∙ ap (λ x. take i gs ++ x ∷ []) (sym here))
-    ∙ groups_view-push (take i gs) g
-
-groups_view-set_last : (gs : List OpenGroup) (i : ℕ) (h : OpenGroup) → suc i ≡ length gs → groups_view (set gs i h) ≡ group_view h ∷ groups_view (take i gs)
-groups_view-set_last gs i h long =
-    ap groups_view (sym (take-length (set gs i h)) ∙ ap (λ n. take n (set gs i h)) (length-set gs i h ∙ sym long) ∙ take-suc-set gs i h (omega arith))
-    ∙ groups_view-push (take i gs) h
-
--- the tree is the next one of the innermost group, which is the last one
-pub added-last : (t : Tree) (gs : List OpenGroup) (i : ℕ) (g h : OpenGroup) (complete : Option Located) → suc i ≡ length gs → g ≡ get_or gs i g → h.pos.0 ≡ g.pos.0 → h.parts.items ≡ g.parts.items ++ t ∷ [] → between (groups_view (set gs i h)) complete ≡ add_to (located t) (groups_view gs) complete
-added-last t gs i g h complete long here same parts =
-    let grown : group_view h ≡ record { start = g.pos.0; parts = map located g.parts.items ++ located t ∷ [] } =
-    ap₂ group_of same (ap (map located) parts ∙ map-append located g.parts.items (t ∷ [])) in
-    ap (λ x. between x complete) (groups_view-set_last gs i h long ∙ ap (λ x. x ∷ groups_view (take i gs)) grown)
-    ∙ sym (ap (λ x. add_to (located t) x complete) (groups_view-last gs i g long here))

@@ -8,4 +8,5 @@ pub mod Faults
 pub mod Characters
 pub mod Reading
 pub mod Refusals
+pub mod Openings
 pub mod ReaderViews

@@ -1,11 +1,11 @@
 -- The reader's state as plain data.
-use Rattle.std.specs.Prelude.{ℕ, ◌≤◌, IsTrue, List, length, map, reverse, drop, option_map}
+use Rattle.std.specs.Prelude.{ℕ, ◌≤◌, IsTrue, List, length, drop, option_map}
 use Rattle.ipdl_base.specs.Names.{is_name}
-use Rattle.ipdl_tree.specs.declared.reader.OpenGroup.{OpenGroup}
 use Rattle.ipdl_tree.specs.declared.token.OpenToken.{OpenToken}
 use Rattle.ipdl_tree.specs.declared.token.OpenToken.TheVariants as tokens
 use Rattle.ipdl_tree.specs.declared.reader.Reader.{Reader}
-use Rattle.ipdl_tree.specs.Reading.{Token, no_token, comment, open_name, open_number, open_literal, Group, Reading}
+use Rattle.ipdl_tree.specs.Reading.{Token, no_token, comment, open_name, open_number, open_literal, Reading}
+use Rattle.ipdl_tree.specs.Openings.{groups_of}
 use Rattle.ipdl_tree.specs.Views.{located}
 
 -- an open token, after the text before the offset where the reader is
@@ -16,17 +16,9 @@ token_view front (tokens.Name start) = open_name start (drop start front)
 token_view front (tokens.Number start value) = open_number start value
 token_view front (tokens.Literal start bits) = open_literal start bits
 
--- a group that is open
-abbrev pub group_view : OpenGroup → Group
-group_view g = record { start = g.pos.0; parts = map located g.parts.items }
-
--- all of them, the innermost first
-abbrev pub groups_view : List OpenGroup → List Group
-groups_view groups = reverse (map group_view groups)
-
 -- the reader's state, after the text before the offset where it is
 abbrev pub reading : List ℕ → Reader → Reading
-reading front r = record { token = token_view front r.token; groups = groups_view r.groups.items; complete = option_map located r.complete }
+reading front r = record { token = token_view front r.token; groups = groups_of r.groups; complete = option_map located r.complete }
 
 -- a name that is open is one so far
 abbrev pub IsTokenAfter : List ℕ → OpenToken → Type 0

@@ -7,6 +7,7 @@
 
 mod character;
 mod fault;
+mod groups;
 mod laws;
 mod read;
 mod reader;

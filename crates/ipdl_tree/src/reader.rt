@@ -4,28 +4,23 @@ ghost use Rattle.std.specs.Char.{encode_utf8};
 ghost use Rattle.ipdl_tree.specs.Faults.{Gives};
 ghost use Rattle.ipdl_tree.specs.Characters.{beginning_of};
 ghost use Rattle.ipdl_tree.specs.Reading.{nothing_read, add_to, fills_gap, ended, after_beginning, after_in_token, refusal_of_beginning, refusal_of_any_beginning, refusal_in_token, refusal_of, unless, step, finish, whole};
-ghost use Rattle.ipdl_tree.specs.ReaderViews.{reading, groups_view, IsTokenAfter};
+ghost use Rattle.ipdl_tree.specs.Openings.{groups_of};
+ghost use Rattle.ipdl_tree.specs.ReaderViews.{reading, IsTokenAfter};
 ghost use Rattle.ipdl_tree.specs.Views.{located};
 
 use crate::character::{Beginning, beginning_of, ends_token};
 use crate::fault::{SpellCause, TreeFault};
+use crate::groups::OpenGroups;
 use crate::token::{OpenToken, continues, extended, no_bits, tree_of};
 use crate::tree::{Node, Tree};
 use ipdl_base::{Limit, NoMemory, Pos};
 use std::alloc::Global;
 
-// Parentheses that are open, and the trees between them so far.
-#[derive(Drop)]
-pub(crate) struct OpenGroup {
-    pos: Pos,
-    parts: Vec<Tree>,
-}
-
-// What was read of a tree so far, the innermost group last.
+// What was read of a tree so far.
 #[derive(Drop)]
 pub(crate) struct Reader {
     token: OpenToken,
-    groups: Vec<OpenGroup>,
+    groups: OpenGroups,
     complete: Option<Tree>,
 }
 
@@ -57,7 +52,7 @@ impl Reader {
     {
         Reader {
             token: OpenToken::Nothing,
-            groups: Vec::new(alloc),
+            groups: OpenGroups::empty(alloc),
             complete: None,
         }
     }
@@ -66,29 +61,27 @@ impl Reader {
     fn add(&mut self, tree: Tree) -> Result<(), NoMemory>
         ensures token { OnOk result (self.new.token ≡ OpenToken.Nothing) }
         ensures added { (front : List ℕ) → OnOk result
-            (reading front self.new ≡ add_to (located tree) (groups_view self.old.groups.items) (reading front self.old).complete) }
+            (reading front self.new ≡ add_to (located tree) (groups_of self.old.groups) (reading front self.old).complete) }
     {
         self.token = OpenToken::Nothing;
-        match self.groups.last_mut() {
-            None => self.complete = Some(tree),
-            Some(group) => group.parts.push(tree)?,
+        if self.groups.count() == 0 {
+            self.complete = Some(tree);
+        } else {
+            self.groups.add(tree)?;
         }
         Ok(())
     }
 
     // An opening parenthesis.
-    fn open(&mut self, alloc: Global, at: u32, c: char) -> Result<(), TreeFault>
+    fn open(&mut self, at: u32, c: char) -> Result<(), TreeFault>
         requires { self.old.token ≡ OpenToken.Nothing }
         ensures { (front next : List ℕ) → Gives (λ _. reading next self.new) result
             (unless (refusal_of_beginning (reading front self.old) Beginning.Opening) at (after_beginning (reading front self.old) at c Beginning.Opening)) }
     {
-        if self.groups.len() as u64 >= Limit::Depth.number() {
+        if self.groups.count() as u64 >= Limit::Depth.number() {
             return Err(TreeFault::Deep { pos: Pos(at) });
         }
-        self.groups.push(OpenGroup {
-            pos: Pos(at),
-            parts: Vec::new(alloc),
-        })?;
+        self.groups.open(Pos(at))?;
         Ok(())
     }
 
@@ -97,12 +90,12 @@ impl Reader {
         ensures { (front next : List ℕ) → Gives (λ _. reading next self.new) result
             (unless (refusal_of_beginning (reading front self.old) Beginning.Closing) at (after_beginning (reading front self.old) at c Beginning.Closing)) }
     {
-        match self.groups.pop() {
+        match self.groups.close()? {
             None => Err(spell(at, SpellCause::BadByte)),
-            Some(group) => {
+            Some((pos, parts)) => {
                 self.add(Tree {
-                    pos: group.pos,
-                    node: Node::Group(group.parts),
+                    pos,
+                    node: Node::Group(parts),
                 })?;
                 Ok(())
             }
@@ -110,13 +103,7 @@ impl Reader {
     }
 
     // A character where no token is open. The text before it is `front`.
-    fn begin(
-        &mut self,
-        alloc: Global,
-        front: &str,
-        c: char,
-        beginning: Beginning,
-    ) -> Result<(), TreeFault>
+    fn begin(&mut self, front: &str, c: char, beginning: Beginning) -> Result<(), TreeFault>
         requires small { length front.now < 2 ^ 32 }
         requires between { self.old.token ≡ OpenToken.Nothing }
         requires digit { beginning ≡ Beginning.Number → (48 ≤ c) × (c ≤ 57) }
@@ -133,7 +120,7 @@ impl Reader {
                 self.token = OpenToken::Comment;
                 Ok(())
             }
-            Beginning::Opening => self.open(alloc, at, c),
+            Beginning::Opening => self.open(at, c),
             Beginning::Closing => self.close(at, c),
             Beginning::Number => {
                 self.token = OpenToken::Number {
@@ -181,7 +168,7 @@ impl Reader {
             (after_beginning (ended (reading front.now self.old)) (length front.now) c (beginning_of c))) }
     {
         self.end_token(alloc, front)?;
-        self.begin(alloc, front, c, beginning_of(c))
+        self.begin(front, c, beginning_of(c))
     }
 
     // A character after `front`, where a token is open.
@@ -214,7 +201,7 @@ impl Reader {
         ensures step { Gives (λ _. reading (front.now ++ encode_utf8 c) self.new) result (step refusal_of (reading front.now self.old) (length front.now) c) }
     {
         match self.token {
-            OpenToken::Nothing => self.begin(alloc, front, c, beginning_of(c)),
+            OpenToken::Nothing => self.begin(front, c, beginning_of(c)),
             OpenToken::Comment => {
                 if c == '\n' {
                     self.token = OpenToken::Nothing;
@@ -234,7 +221,7 @@ impl Reader {
             groups,
             complete,
         } = self;
-        if !groups.is_empty() {
+        if groups.count() != 0 {
             return Err(spell(at, SpellCause::Unclosed));
         }
         match complete {

@@ -11,7 +11,7 @@ ghost use Rattle.ipdl_tree.specs.Views.{located};
 use crate::character::{continues_name, is_digit};
 use crate::fault::SpellCause;
 use crate::tree::{Node, Tree};
-use ipdl_base::{Bits, Name, NameFault, NoMemory, Pos};
+use ipdl_base::{Bits, Name, NoMemory, Pos};
 use std::alloc::Global;
 
 // The most bytes of a name.
@@ -134,9 +134,5 @@ fn name_of(alloc: Global, front: &str, start: u32) -> Result<Name, NoMemory>
     requires name { IsTrue (is_name (drop start front.now)) }
     ensures { IfOk result (λ n. n ≡ drop start front.now) }
 {
-    match Name::read(alloc, &front[start as usize..]) {
-        Ok(name) => Ok(name),
-        Err(NameFault::Memory) => Err(NoMemory),
-        Err(NameFault::Bad) => unreachable!(),
-    }
+    Name::of_text(alloc, &front[start as usize..])
 }

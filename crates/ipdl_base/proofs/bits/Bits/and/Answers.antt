@@ -10,5 +10,5 @@ returns-then-self-other c e =
 pub returns : goal.returns
 returns c = (
   sym (width_from_bits _ _ _ c.self.view_is) ∙ c.if-self-other.false ∙ width_from_bits _ _ _ c.other.view_is,
-  rw (bits_of-and, c.self.view_is, c.if-self-other.false, c.other.view_is) refl,
+  rw (c.of.ensures, c.number.ensures, c.number-2.ensures, bits_of-and, c.self.view_is, c.if-self-other.false, c.other.view_is) refl,
 )

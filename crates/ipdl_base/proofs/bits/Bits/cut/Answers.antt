@@ -30,4 +30,4 @@ returns-clause-within c =
 
 pub returns-clause-value : goal.returns-clause-value
 returns-clause-value c =
-    rw c.ones.ensures (bits_of-cut c.self.inside.width c.self.inside.value c.args.from c.args.count c.args.self c.self.view_is (omega arith))
+    rw (c.of-2.ensures, c.number.ensures, c.ones.ensures) (bits_of-cut c.self.inside.width c.self.inside.value c.args.from c.args.count c.args.self c.self.view_is (omega arith))

@@ -10,10 +10,10 @@ returns-then-self-other c e =
 
 pub invariant_of-result : goal.invariant_of-result
 invariant_of-result c =
-    (c.self.invariant.0, xor_lt _ _ _ c.self.invariant.1 (rw c.if-self-other.false c.other.invariant.1))
+    (c.self.invariant.0, rw (c.of.ensures, c.number.ensures, c.number-2.ensures) (xor_lt _ _ _ c.self.invariant.1 (rw c.if-self-other.false c.other.invariant.1)))
 
 pub returns : goal.returns
 returns c = (
   sym (width_from_bits _ _ _ c.self.view_is) ∙ c.if-self-other.false ∙ width_from_bits _ _ _ c.other.view_is,
-  rw (bits_of-xor, c.self.view_is, c.if-self-other.false, c.other.view_is) refl,
+  rw (c.of.ensures, c.number.ensures, c.number-2.ensures, bits_of-xor, c.self.view_is, c.if-self-other.false, c.other.view_is) refl,
 )

@@ -2,6 +2,9 @@ pub mod Deciding
 pub mod ChannelSets
 pub mod NameOrder
 pub mod FittingLemmas
+pub mod ChangeSizes
+pub mod ChangeFits
+pub mod ChangeLemmas
 pub mod SizeLemmas
 pub mod RuleLemmas
 pub mod WithinLemmas

@@ -14,6 +14,7 @@ pub mod Equality
 pub mod Same
 pub mod Spines
 pub mod Fitting
+pub mod Changes
 pub mod Rules
 pub mod Steps
 pub mod Places

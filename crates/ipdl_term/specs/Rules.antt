@@ -1,6 +1,6 @@
 -- The rules with their arguments, and the one table of their words, of the kind of terms that each changes, and of what
 -- arguments it has.
-use Rattle.std.specs.Prelude.{◌≡◌, ℕ, Bool, true, false, List, [], ◌∷◌, map, Option, Some, None, option_map, bytes_eq, codes, position, if◌then◌else◌}
+use Rattle.std.specs.Prelude.{ℕ, Bool, true, false, List, [], ◌∷◌, map, Option, Some, None, bytes_eq, codes, position, if◌then◌else◌}
 use Rattle.ipdl_term.specs.Terms.{Channel, Expression, literal}
 
 pub data Rule : Type 0 where

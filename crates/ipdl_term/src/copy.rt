@@ -4,6 +4,7 @@ ghost use Rattle.std.specs.Prelude.{◌≡◌, IfOk};
 ghost use Rattle.ipdl_term.specs.Views.{expression_of, reaction_of, protocol_of, context_of, term_of};
 
 use crate::boxing::boxed;
+use crate::change::{Change, changed_expr, changed_proto, changed_react};
 use crate::context::Ctx;
 use crate::expression::Expr;
 use crate::part::Part;
@@ -13,80 +14,27 @@ use ipdl_base::NoMemory;
 use std::alloc::Global;
 
 /// The same expression in memory of its own.
+#[tactic(auto, using(crate::proofs::ChangeFits::keep_fits, crate::proofs::ChangeLemmas::kept))]
 pub fn copy_expr(alloc: Global, term: &Expr) -> Result<Expr, NoMemory>
     ensures { IfOk result (λ copy. expression_of copy ≡ expression_of term.now) }
 {
-    Ok(match term {
-        Expr::Lit(bits) => Expr::Lit(*bits),
-        Expr::Var(n) => Expr::Var(*n),
-        Expr::Outer(n) => Expr::Outer(*n),
-        Expr::Apply(f, e) => Expr::Apply(*f, boxed(alloc, copy_expr(alloc, e))?),
-        Expr::Xor(a, b) => Expr::Xor(
-            boxed(alloc, copy_expr(alloc, a))?,
-            boxed(alloc, copy_expr(alloc, b))?,
-        ),
-        Expr::And(a, b) => Expr::And(
-            boxed(alloc, copy_expr(alloc, a))?,
-            boxed(alloc, copy_expr(alloc, b))?,
-        ),
-        Expr::Not(a) => Expr::Not(boxed(alloc, copy_expr(alloc, a))?),
-        Expr::Cat(a, b) => Expr::Cat(
-            boxed(alloc, copy_expr(alloc, a))?,
-            boxed(alloc, copy_expr(alloc, b))?,
-        ),
-        Expr::Cut(i, n, a) => Expr::Cut(*i, *n, boxed(alloc, copy_expr(alloc, a))?),
-        Expr::Same(a, b) => Expr::Same(
-            boxed(alloc, copy_expr(alloc, a))?,
-            boxed(alloc, copy_expr(alloc, b))?,
-        ),
-        Expr::Mux(c, a, b) => Expr::Mux(
-            boxed(alloc, copy_expr(alloc, c))?,
-            boxed(alloc, copy_expr(alloc, a))?,
-            boxed(alloc, copy_expr(alloc, b))?,
-        ),
-    })
+    changed_expr(alloc, &Change::Keep, 0, term)
 }
 
 /// The same reaction in memory of its own.
+#[tactic(auto, using(crate::proofs::ChangeFits::keep_fits, crate::proofs::ChangeLemmas::kept))]
 pub fn copy_react(alloc: Global, term: &React) -> Result<React, NoMemory>
     ensures { IfOk result (λ copy. reaction_of copy ≡ reaction_of term.now) }
 {
-    Ok(match term {
-        React::Ret(e) => React::Ret(copy_expr(alloc, e)?),
-        React::Flip(w) => React::Flip(*w),
-        React::Read(c) => React::Read(c.copy(alloc)?),
-        React::Cond(e, r, s) => {
-            let (one, other) = (
-                boxed(alloc, copy_react(alloc, r))?,
-                boxed(alloc, copy_react(alloc, s))?,
-            );
-            React::Cond(copy_expr(alloc, e)?, one, other)
-        }
-        React::Bind(w, r, s) => React::Bind(
-            *w,
-            boxed(alloc, copy_react(alloc, r))?,
-            boxed(alloc, copy_react(alloc, s))?,
-        ),
-    })
+    changed_react(alloc, &Change::Keep, 0, term)
 }
 
 /// The same protocol in memory of its own.
+#[tactic(auto, using(crate::proofs::ChangeFits::keep_fits, crate::proofs::ChangeLemmas::kept))]
 pub fn copy_proto(alloc: Global, proto: &Proto) -> Result<Proto, NoMemory>
     ensures { IfOk result (λ copy. protocol_of copy ≡ protocol_of proto.now) }
 {
-    Ok(match proto {
-        Proto::Nil => Proto::Nil,
-        Proto::Out(c, r) => Proto::Out(c.copy(alloc)?, copy_react(alloc, r)?),
-        Proto::Par(p, q) => Proto::Par(
-            boxed(alloc, copy_proto(alloc, p))?,
-            boxed(alloc, copy_proto(alloc, q))?,
-        ),
-        Proto::Hide(c, w, p) => Proto::Hide(
-            c.copy(alloc)?,
-            *w,
-            boxed(alloc, copy_proto(alloc, p))?,
-        ),
-    })
+    changed_proto(alloc, &Change::Keep, 0, proto)
 }
 
 /// The same context in memory of its own.

@@ -4,6 +4,7 @@
 #![tactic(auto)]
 
 mod boxing;
+mod change;
 mod context;
 mod copy;
 mod expression;

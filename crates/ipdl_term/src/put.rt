@@ -2,14 +2,11 @@
 
 ghost use Rattle.std.specs.Prelude.{◌≡◌, ◌↔◌, ◌+◌, ◌^◌, ◌<◌, max, IfOk};
 ghost use Rattle.ipdl_term.specs.Views.{expression_of, reaction_of};
-ghost use Rattle.ipdl_term.specs.Terms.{variable};
 ghost use Rattle.ipdl_term.specs.Sizes.{saturated, most_nodes, expression_nodes, reaction_nodes, reaction_binders, greatest_in_expression, greatest_in_reaction};
-ghost use Rattle.ipdl_term.specs.Variables.{put_number, put_expression, put_reaction};
-ghost use Rattle.ipdl_term.specs.Fitting.{LiftFitsInExpression};
+ghost use Rattle.ipdl_term.specs.Variables.{put_expression, put_reaction};
 
-use crate::boxing::boxed;
+use crate::change::{Change, changed_expr, changed_react};
 use crate::expression::Expr;
-use crate::lift::lift_expr;
 use crate::reaction::React;
 use crate::sizes::expr_nodes;
 use ipdl_base::{Limit, NoMemory};
@@ -70,88 +67,9 @@ fn put_react_nodes(body: &React, depth: u32, value: &Expr, value_nodes: u64) -> 
     }
 }
 
-// What stands for a variable under so many binders.
-fn put_var(alloc: Global, number: u32, depth: u32, value: &Expr) -> Result<Expr, NoMemory>
-    requires { LiftFitsInExpression (expression_of value.now) 0 depth }
-    ensures { IfOk result (λ term. expression_of term ≡ put_number depth (expression_of value.now) number) }
-{
-    if number < depth {
-        Ok(Expr::Var(number))
-    } else if number == depth {
-        lift_expr(alloc, value, 0, depth)
-    } else {
-        Ok(Expr::Var(number - 1))
-    }
-}
-
-// The body with the value in the place of the variable of the depth.
-fn put_expr_under(alloc: Global, body: &Expr, depth: u32, value: &Expr) -> Result<Expr, NoMemory>
-    requires { LiftFitsInExpression (expression_of value.now) 0 depth }
-    ensures { IfOk result (λ term. expression_of term ≡ put_expression depth (expression_of body.now) (expression_of value.now)) }
-{
-    Ok(match body {
-        Expr::Lit(bits) => Expr::Lit(*bits),
-        Expr::Var(n) => put_var(alloc, *n, depth, value)?,
-        Expr::Outer(n) => Expr::Outer(*n),
-        Expr::Apply(f, e) => Expr::Apply(*f, boxed(alloc, put_expr_under(alloc, e, depth, value))?),
-        Expr::Xor(a, b) => Expr::Xor(
-            boxed(alloc, put_expr_under(alloc, a, depth, value))?,
-            boxed(alloc, put_expr_under(alloc, b, depth, value))?,
-        ),
-        Expr::And(a, b) => Expr::And(
-            boxed(alloc, put_expr_under(alloc, a, depth, value))?,
-            boxed(alloc, put_expr_under(alloc, b, depth, value))?,
-        ),
-        Expr::Not(a) => Expr::Not(boxed(alloc, put_expr_under(alloc, a, depth, value))?),
-        Expr::Cat(a, b) => Expr::Cat(
-            boxed(alloc, put_expr_under(alloc, a, depth, value))?,
-            boxed(alloc, put_expr_under(alloc, b, depth, value))?,
-        ),
-        Expr::Cut(i, n, a) => Expr::Cut(
-            *i,
-            *n,
-            boxed(alloc, put_expr_under(alloc, a, depth, value))?,
-        ),
-        Expr::Same(a, b) => Expr::Same(
-            boxed(alloc, put_expr_under(alloc, a, depth, value))?,
-            boxed(alloc, put_expr_under(alloc, b, depth, value))?,
-        ),
-        Expr::Mux(c, a, b) => Expr::Mux(
-            boxed(alloc, put_expr_under(alloc, c, depth, value))?,
-            boxed(alloc, put_expr_under(alloc, a, depth, value))?,
-            boxed(alloc, put_expr_under(alloc, b, depth, value))?,
-        ),
-    })
-}
-
-// The body with the value in the place of the variable of the depth, which grows under binders.
-#[tactic(auto, using(crate::proofs::FittingLemmas::lift_fits))]
-fn put_react_under(alloc: Global, body: &React, depth: u32, value: &Expr) -> Result<React, NoMemory>
-    requires { greatest_in_expression (expression_of value.now) + (depth + reaction_binders (reaction_of body.now)) < 2 ^ 32 }
-    ensures { IfOk result (λ term. reaction_of term ≡ put_reaction depth (reaction_of body.now) (expression_of value.now)) }
-{
-    Ok(match body {
-        React::Ret(e) => React::Ret(put_expr_under(alloc, e, depth, value)?),
-        React::Flip(w) => React::Flip(*w),
-        React::Read(c) => React::Read(c.copy(alloc)?),
-        React::Cond(e, r, s) => {
-            let (one, other) = (
-                boxed(alloc, put_react_under(alloc, r, depth, value))?,
-                boxed(alloc, put_react_under(alloc, s, depth, value))?,
-            );
-            React::Cond(put_expr_under(alloc, e, depth, value)?, one, other)
-        }
-        React::Bind(w, r, s) => React::Bind(
-            *w,
-            boxed(alloc, put_react_under(alloc, r, depth, value))?,
-            boxed(alloc, put_react_under(alloc, s, depth + 1, value))?,
-        ),
-    })
-}
-
 /// The body with the value in the place of variable 0, and each other variable one less. `Nodes`
 /// exactly where that is too large, which is counted before anything is made.
-#[tactic(auto, using(crate::proofs::FittingLemmas::lift_fits))]
+#[tactic(auto, using(crate::proofs::ChangeFits::put_fits, crate::proofs::ChangeLemmas::with_value))]
 pub fn put_expr(alloc: Global, body: &Expr, value: &Expr) -> Result<Expr, TermFault>
     ensures value { IfOk result (λ term. expression_of term ≡ put_expression 0 (expression_of body.now) (expression_of value.now)) }
     ensures nodes { (result ≡ Err TermFault.Nodes) ↔ (most_nodes < expression_nodes (put_expression 0 (expression_of body.now) (expression_of value.now))) }
@@ -159,7 +77,7 @@ pub fn put_expr(alloc: Global, body: &Expr, value: &Expr) -> Result<Expr, TermFa
     if put_expr_nodes(body, 0, value, expr_nodes(value)) > Limit::Nodes.number() {
         return Err(TermFault::Nodes);
     }
-    match put_expr_under(alloc, body, 0, value) {
+    match changed_expr(alloc, &Change::Put { value }, 0, body) {
         Ok(term) => Ok(term),
         Err(_) => Err(TermFault::Memory),
     }
@@ -168,6 +86,7 @@ pub fn put_expr(alloc: Global, body: &Expr, value: &Expr) -> Result<Expr, TermFa
 /// The body with the value in the place of variable 0, and each other variable one less. The
 /// value's variables grow by one under each binder of the body. `Nodes` exactly where that is too
 /// large, which is counted before anything is made.
+#[tactic(auto, using(crate::proofs::ChangeFits::put_fits, crate::proofs::ChangeLemmas::with_value))]
 pub fn put_react(alloc: Global, body: &React, value: &Expr) -> Result<React, TermFault>
     requires { max (greatest_in_reaction (reaction_of body.now)) (greatest_in_expression (expression_of value.now)) + reaction_binders (reaction_of body.now) < 2 ^ 32 }
     ensures value { IfOk result (λ term. reaction_of term ≡ put_reaction 0 (reaction_of body.now) (expression_of value.now)) }
@@ -176,7 +95,7 @@ pub fn put_react(alloc: Global, body: &React, value: &Expr) -> Result<React, Ter
     if put_react_nodes(body, 0, value, expr_nodes(value)) > Limit::Nodes.number() {
         return Err(TermFault::Nodes);
     }
-    match put_react_under(alloc, body, 0, value) {
+    match changed_react(alloc, &Change::Put { value }, 0, body) {
         Ok(term) => Ok(term),
         Err(_) => Err(TermFault::Memory),
     }

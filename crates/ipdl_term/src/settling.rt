@@ -5,7 +5,7 @@ ghost use Rattle.ipdl_term.specs.Views.{expression_of, reaction_of, protocol_of,
 ghost use Rattle.ipdl_term.specs.Sizes.{reaction_binders, protocol_binders, term_binders, greatest_in_term};
 ghost use Rattle.ipdl_term.specs.Variables.{settled_expression, settled_reaction, settled_protocol, settled_term, unsettled_in_expression, unsettled_in_reaction, unsettled_in_protocol, unsettled_number};
 
-use crate::boxing::boxed;
+use crate::change::{Change, changed_expr, changed_proto, changed_react};
 use crate::expression::Expr;
 use crate::part::Part;
 use crate::protocol::Proto;
@@ -93,94 +93,16 @@ fn unsettled(depth: u32, part: &Part) -> Option<u32>
     }
 }
 
-// The expression with each outer variable in the place that so many binders around it give.
-fn settled_expr(alloc: Global, binders: u32, term: &Expr) -> Result<Expr, NoMemory>
-    ensures { IfOk result (λ settled. expression_of settled ≡ settled_expression binders (expression_of term.now)) }
-{
-    Ok(match term {
-        Expr::Lit(bits) => Expr::Lit(*bits),
-        Expr::Var(n) => Expr::Var(*n),
-        Expr::Outer(n) => Expr::Var(binders.saturating_sub(1).saturating_sub(*n)),
-        Expr::Apply(f, e) => Expr::Apply(*f, boxed(alloc, settled_expr(alloc, binders, e))?),
-        Expr::Xor(a, b) => Expr::Xor(
-            boxed(alloc, settled_expr(alloc, binders, a))?,
-            boxed(alloc, settled_expr(alloc, binders, b))?,
-        ),
-        Expr::And(a, b) => Expr::And(
-            boxed(alloc, settled_expr(alloc, binders, a))?,
-            boxed(alloc, settled_expr(alloc, binders, b))?,
-        ),
-        Expr::Not(a) => Expr::Not(boxed(alloc, settled_expr(alloc, binders, a))?),
-        Expr::Cat(a, b) => Expr::Cat(
-            boxed(alloc, settled_expr(alloc, binders, a))?,
-            boxed(alloc, settled_expr(alloc, binders, b))?,
-        ),
-        Expr::Cut(i, n, a) => Expr::Cut(*i, *n, boxed(alloc, settled_expr(alloc, binders, a))?),
-        Expr::Same(a, b) => Expr::Same(
-            boxed(alloc, settled_expr(alloc, binders, a))?,
-            boxed(alloc, settled_expr(alloc, binders, b))?,
-        ),
-        Expr::Mux(c, a, b) => Expr::Mux(
-            boxed(alloc, settled_expr(alloc, binders, c))?,
-            boxed(alloc, settled_expr(alloc, binders, a))?,
-            boxed(alloc, settled_expr(alloc, binders, b))?,
-        ),
-    })
-}
-
-// The same of a reaction, under its own binders besides.
-fn settled_react(alloc: Global, binders: u32, term: &React) -> Result<React, NoMemory>
-    requires { binders + reaction_binders (reaction_of term.now) < 2 ^ 32 }
-    ensures { IfOk result (λ settled. reaction_of settled ≡ settled_reaction binders (reaction_of term.now)) }
-{
-    Ok(match term {
-        React::Ret(e) => React::Ret(settled_expr(alloc, binders, e)?),
-        React::Flip(w) => React::Flip(*w),
-        React::Read(c) => React::Read(c.copy(alloc)?),
-        React::Cond(e, r, s) => {
-            let (one, other) = (
-                boxed(alloc, settled_react(alloc, binders, r))?,
-                boxed(alloc, settled_react(alloc, binders, s))?,
-            );
-            React::Cond(settled_expr(alloc, binders, e)?, one, other)
-        }
-        React::Bind(w, r, s) => React::Bind(
-            *w,
-            boxed(alloc, settled_react(alloc, binders, r))?,
-            boxed(alloc, settled_react(alloc, binders + 1, s))?,
-        ),
-    })
-}
-
-// The same of a protocol.
-fn settled_proto(alloc: Global, binders: u32, proto: &Proto) -> Result<Proto, NoMemory>
-    requires { binders + protocol_binders (protocol_of proto.now) < 2 ^ 32 }
-    ensures { IfOk result (λ settled. protocol_of settled ≡ settled_protocol binders (protocol_of proto.now)) }
-{
-    Ok(match proto {
-        Proto::Nil => Proto::Nil,
-        Proto::Out(c, r) => Proto::Out(c.copy(alloc)?, settled_react(alloc, binders, r)?),
-        Proto::Par(p, q) => Proto::Par(
-            boxed(alloc, settled_proto(alloc, binders, p))?,
-            boxed(alloc, settled_proto(alloc, binders, q))?,
-        ),
-        Proto::Hide(c, w, p) => Proto::Hide(
-            c.copy(alloc)?,
-            *w,
-            boxed(alloc, settled_proto(alloc, binders, p))?,
-        ),
-    })
-}
-
-// The same of a term of any kind.
+// The term with each outer variable as a variable.
+#[tactic(auto, using(crate::proofs::ChangeFits::settle_fits, crate::proofs::ChangeLemmas::settled))]
 fn settled(alloc: Global, depth: u32, part: &Part) -> Result<Part, NoMemory>
     requires { depth + term_binders (term_of part.now) < 2 ^ 32 }
     ensures { IfOk result (λ settled. term_of settled ≡ settled_term depth (term_of part.now)) }
 {
     Ok(match part {
-        Part::P(p) => Part::P(settled_proto(alloc, depth, p)?),
-        Part::R(r) => Part::R(settled_react(alloc, depth, r)?),
-        Part::E(e) => Part::E(settled_expr(alloc, depth, e)?),
+        Part::P(p) => Part::P(changed_proto(alloc, &Change::Settle, u64::from(depth), p)?),
+        Part::R(r) => Part::R(changed_react(alloc, &Change::Settle, u64::from(depth), r)?),
+        Part::E(e) => Part::E(changed_expr(alloc, &Change::Settle, u64::from(depth), e)?),
     })
 }
 

@@ -19,9 +19,6 @@ use std::alloc::Global;
 // The version of the language.
 const VERSION: u32 = 1;
 
-// The most items of a document.
-const MOST_ITEMS: usize = 512;
-
 // The tree is the number of the version.
 fn read_version(tree: &Tree) -> Result<(), DocFault>
     ensures number { OnOk result (number_in (located tree.now) ≡ Some this_version) }
@@ -48,7 +45,7 @@ fn read_items(trees: &[Tree], alloc: Global) -> Result<Document, DocFault>
     let mut sig = Sig::empty(alloc);
     let mut items = List::empty(alloc);
     for tree in trees {
-        if items.as_slice().len() >= MOST_ITEMS {
+        if items.as_slice().len() as u64 >= Limit::Items.number() {
             return Err(DocFault::Over {
                 limit: Limit::Items,
                 pos: tree.pos,

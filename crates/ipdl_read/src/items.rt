@@ -11,7 +11,7 @@ ghost use Rattle.ipdl_read.specs.Earlier.{earlier_of};
 ghost use Rattle.ipdl_forms.specs.Faults.{TellsFirst};
 ghost use Rattle.ipdl_forms.specs.Items.{SpellsEntry, body_scope, protocol_form, assume_form, theorem_form, item_faults};
 ghost use Rattle.ipdl_forms.specs.Lists.{word_in, is_among};
-ghost use Rattle.ipdl_read.specs.Parts.{earlier_at, form_faults};
+ghost use Rattle.ipdl_read.specs.Parts.{SpellsNamed, earlier_at, form_faults, named_faults};
 ghost use Rattle.ipdl_forms.specs.Protocols.{SpellsProtocol, protocol_faults};
 ghost use Rattle.ipdl_forms.specs.Steps.{declared_faults};
 
@@ -88,6 +88,25 @@ fn read_protocol(
     })
 }
 
+// The name and the two protocols that an assumption, and a theorem as well, begins with.
+fn read_named(
+    name: &Tree,
+    left: &Tree,
+    right: &Tree,
+    alloc: Global,
+    earlier: &Earlier,
+) -> Result<AssumeItem, DocFault>
+    ensures spelled { IfOk result (λ a. SpellsNamed (earlier_of earlier.now) a.name a.left a.right (located name.now) (located left.now) (located right.now)) }
+    ensures clean { OnOk result (named_faults (earlier_of earlier.now) (located name.now) (located left.now) (located right.now) ≡ []) }
+    ensures first { IfErr result (λ fault. TellsFirst fault
+        (named_faults (earlier_of earlier.now) (located name.now) (located left.now) (located right.now))) }
+{
+    let name = read_item_name(name, alloc, earlier)?;
+    let left = read_side_name(left, alloc, earlier.items)?;
+    let right = read_side_name(right, alloc, earlier.items)?;
+    Ok(AssumeItem { name, left, right })
+}
+
 // The assumption that the parts after the head tell.
 #[tactic(auto, using(ipdl_read_terms::proofs::Lists::tree_count_located))]
 fn read_assumption(
@@ -106,10 +125,7 @@ fn read_assumption(
     let [name, left, right] = parts else {
         return Err(not_a_form(list));
     };
-    let name = read_item_name(name, alloc, earlier)?;
-    let left = read_side_name(left, alloc, earlier.items)?;
-    let right = read_side_name(right, alloc, earlier.items)?;
-    Ok(AssumeItem { name, left, right })
+    read_named(name, left, right, alloc, earlier)
 }
 
 // The theorem that the parts after the head tell.
@@ -130,9 +146,7 @@ fn read_theorem(
     let [name, left, right, lefts, rights] = parts else {
         return Err(not_a_form(list));
     };
-    let name = read_item_name(name, alloc, earlier)?;
-    let left = read_side_name(left, alloc, earlier.items)?;
-    let right = read_side_name(right, alloc, earlier.items)?;
+    let AssumeItem { name, left, right } = read_named(name, left, right, alloc, earlier)?;
     let left_steps = read_side(lefts, alloc, earlier, "left", 0)?;
     let before = left_steps.as_slice().len();
     let right_steps = read_side(rights, alloc, earlier, "right", before)?;

@@ -1,6 +1,8 @@
 //! Steps of scripts, in reading order.
 
 ghost use Rattle.std.specs.Prelude.{◌≡◌, ◌+◌, ◌≤◌, [], false, Some, length, map, IfOk, OnOk, IfErr};
+ghost use Rattle.ipdl_base.specs.Limits.{limit_number};
+ghost use Rattle.ipdl_base.specs.declared.limit.Limit.TheVariants.{Steps};
 ghost use Rattle.ipdl_term.specs.Views.{term_of};
 ghost use Rattle.ipdl_tree.specs.Trees.{Located, offset_of};
 ghost use Rattle.ipdl_tree.specs.Views.{located, all_located};
@@ -29,9 +31,6 @@ use ipdl_read_terms::{
 use ipdl_term::{Part, Rule, Step};
 use ipdl_tree::Tree;
 use std::alloc::Global;
-
-// The most steps of a theorem, both sides together.
-const MOST_STEPS: usize = 2_048;
 
 // Whether the word is that of a rule at expressions, which has no step backwards.
 fn is_expression_word(word: &Name) -> bool
@@ -187,10 +186,10 @@ fn read_steps(
     earlier: &Earlier,
     before: usize,
 ) -> Result<List<Step>, DocFault>
-    requires few { before ≤ 2_048 }
+    requires few { before ≤ limit_number Steps }
     ensures spelled { IfOk result (λ steps. AreSteps (earlier_of earlier.now) (map step_of steps) (all_located parts.now)) }
     ensures count { IfOk result (λ steps. length steps ≡ tree_count (all_located parts.now)) }
-    ensures few { IfOk result (λ steps. before + length steps ≤ 2_048) }
+    ensures few { IfOk result (λ steps. before + length steps ≤ limit_number Steps) }
     ensures clean { OnOk result (all_step_faults (earlier_of earlier.now) before (all_located parts.now) ≡ []) }
     ensures first { IfErr result (λ fault. TellsFirst fault
         (all_step_faults (earlier_of earlier.now) before (all_located parts.now))) }
@@ -198,7 +197,7 @@ fn read_steps(
     let mut steps = List::empty(alloc);
     let mut count = before;
     for part in parts {
-        if count >= MOST_STEPS {
+        if count as u64 >= Limit::Steps.number() {
             return Err(DocFault::Over {
                 limit: Limit::Steps,
                 pos: part.pos,
@@ -219,11 +218,11 @@ pub(crate) fn read_side(
     side: &str,
     before: usize,
 ) -> Result<List<Step>, DocFault>
-    requires few { before ≤ 2_048 }
+    requires few { before ≤ limit_number Steps }
     ensures spelled { IfOk result (λ steps.
         SpellsSide (earlier_of earlier.now) side.now (map step_of steps) (located tree.now)) }
     ensures count { IfOk result (λ steps. length steps ≡ tree_count (operands (located tree.now))) }
-    ensures few { IfOk result (λ steps. before + length steps ≤ 2_048) }
+    ensures few { IfOk result (λ steps. before + length steps ≤ limit_number Steps) }
     ensures clean { OnOk result (side_faults (earlier_of earlier.now) side.now before (located tree.now) ≡ []) }
     ensures first { IfErr result (λ fault. TellsFirst fault
         (side_faults (earlier_of earlier.now) side.now before (located tree.now))) }

@@ -7,9 +7,6 @@ ghost use Rattle.ipdl_forms.specs.Faults.{TellsFirst};
 use ipdl_base::{Limit, Pos};
 use ipdl_forms::DocFault;
 
-// The most nodes of a term that is counted.
-const MOST_NODES: u32 = 4096;
-
 /// Counts the nodes of a tree as far as it is read: of the body of a protocol, or of a TERM. The
 /// arguments of a step are not counted.
 #[derive(Clone, Copy)]
@@ -29,8 +26,9 @@ impl NodeCount {
         let Some(count) = self.counted else {
             return Ok(());
         };
+        let most = Limit::Nodes.number() as u32;
         match u32::try_from(more) {
-            Ok(more) if more <= MOST_NODES - count => {
+            Ok(more) if more <= most - count => {
                 self.counted = Some(count + more);
                 Ok(())
             }

@@ -1,6 +1,8 @@
 //! Expressions, in reading order.
 
 ghost use Rattle.std.specs.Prelude.{◌≡◌, ℕ, suc, ◌≤◌, [], ◌∷◌, length, None, OnOk};
+ghost use Rattle.ipdl_base.specs.Limits.{limit_number};
+ghost use Rattle.ipdl_base.specs.declared.limit.Limit.TheVariants.{Nodes};
 ghost use Rattle.ipdl_tree.specs.Trees.{word, group, tree};
 ghost use Rattle.ipdl_tree.specs.Views.{located, all_located};
 ghost use Rattle.ipdl_term.specs.Views.{expression_of};
@@ -25,7 +27,7 @@ use std::alloc::Global;
 
 // The variable that the name is.
 fn read_variable(scope: &NameScope, pos: Pos, name: &Name) -> Result<Expr, DocFault>
-    requires shallow { length (binder_names scope.now.binders) ≤ 4_096 }
+    requires shallow { length (binder_names scope.now.binders) ≤ limit_number Nodes }
     ensures { IsRead (λ e. (at : ℕ) → SpellsExpression (scope_of scope.now) (expression_of e) (word at name.now))
         (variable_faults (scope_of scope.now) pos.0 name.now) result }
 {
@@ -49,7 +51,7 @@ pub fn read_expr(
     scope: &NameScope,
     nodes: &mut NodeCount,
 ) -> Result<Expr, DocFault>
-    requires shallow { length (binder_names scope.now.binders) ≤ 4_096 }
+    requires shallow { length (binder_names scope.now.binders) ≤ limit_number Nodes }
     requires counted { IsWithinNodes nodes.old.counted }
     ensures read { IsRead (λ e. SpellsExpression (scope_of scope.now) (expression_of e) (located tree.now))
         (expression_faults (scope_of scope.now) nodes.old.counted (located tree.now)) result }
@@ -86,7 +88,7 @@ fn read_boxed(
     scope: &NameScope,
     nodes: &mut NodeCount,
 ) -> Result<Box<Expr>, DocFault>
-    requires shallow { length (binder_names scope.now.binders) ≤ 4_096 }
+    requires shallow { length (binder_names scope.now.binders) ≤ limit_number Nodes }
     requires counted { IsWithinNodes nodes.old.counted }
     ensures read { IsRead (λ e. SpellsExpression (scope_of scope.now) (expression_of e.value) (located tree.now))
         (expression_faults (scope_of scope.now) nodes.old.counted (located tree.now)) result }
@@ -108,7 +110,7 @@ fn read_list(
     head: Pos,
     name: &Name,
 ) -> Result<Expr, DocFault>
-    requires shallow { length (binder_names scope.now.binders) ≤ 4_096 }
+    requires shallow { length (binder_names scope.now.binders) ≤ limit_number Nodes }
     requires counted { IsWithinNodes nodes.old.counted }
     ensures read { IsRead (λ e. SpellsExpression (scope_of scope.now) (expression_of e)
         (group list.0 (tree (word head.0 name.now) (all_located operands.now))))
@@ -161,7 +163,7 @@ fn read_application(
     head: Pos,
     name: &Name,
 ) -> Result<Expr, DocFault>
-    requires shallow { length (binder_names scope.now.binders) ≤ 4_096 }
+    requires shallow { length (binder_names scope.now.binders) ≤ limit_number Nodes }
     requires counted { IsWithinNodes nodes.old.counted }
     requires other { operator_operands name.now ≡ None }
     ensures read { IsRead (λ e. SpellsExpression (scope_of scope.now) (expression_of e)
@@ -191,7 +193,7 @@ fn read_one(
     nodes: &mut NodeCount,
     list: Pos,
 ) -> Result<Box<Expr>, DocFault>
-    requires shallow { length (binder_names scope.now.binders) ≤ 4_096 }
+    requires shallow { length (binder_names scope.now.binders) ≤ limit_number Nodes }
     requires counted { IsWithinNodes nodes.old.counted }
     ensures read { IsRead (λ r. (tree_count (all_located operands.now) ≡ 1)
         × SpellsExpression (scope_of scope.now) (expression_of r.value) (tree_at 0 (all_located operands.now)))
@@ -218,7 +220,7 @@ fn read_two(
     nodes: &mut NodeCount,
     list: Pos,
 ) -> Result<(Box<Expr>, Box<Expr>), DocFault>
-    requires shallow { length (binder_names scope.now.binders) ≤ 4_096 }
+    requires shallow { length (binder_names scope.now.binders) ≤ limit_number Nodes }
     requires counted { IsWithinNodes nodes.old.counted }
     ensures read { IsRead (λ r. (tree_count (all_located operands.now) ≡ 2)
         × SpellsExpression (scope_of scope.now) (expression_of r.0.value) (tree_at 0 (all_located operands.now))
@@ -248,7 +250,7 @@ fn read_three(
     nodes: &mut NodeCount,
     list: Pos,
 ) -> Result<(Box<Expr>, Box<Expr>, Box<Expr>), DocFault>
-    requires shallow { length (binder_names scope.now.binders) ≤ 4_096 }
+    requires shallow { length (binder_names scope.now.binders) ≤ limit_number Nodes }
     requires counted { IsWithinNodes nodes.old.counted }
     ensures read { IsRead (λ r. (tree_count (all_located operands.now) ≡ 3)
         × SpellsExpression (scope_of scope.now) (expression_of r.0.value) (tree_at 0 (all_located operands.now))
@@ -280,7 +282,7 @@ fn read_cut(
     nodes: &mut NodeCount,
     list: Pos,
 ) -> Result<(u8, u8, Box<Expr>), DocFault>
-    requires shallow { length (binder_names scope.now.binders) ≤ 4_096 }
+    requires shallow { length (binder_names scope.now.binders) ≤ limit_number Nodes }
     requires counted { IsWithinNodes nodes.old.counted }
     ensures read { IsRead (λ r. (tree_count (all_located operands.now) ≡ 3)
         × SpellsWidth r.0 (tree_at 0 (all_located operands.now))

@@ -15,14 +15,14 @@ loop-tree-init c = AreRead-none _ _ _ c.empty-sig.ensures c.empty-items.ensures
 pub returns-in_err-item-clause-first : goal.returns-in_err-item-clause-first
 returns-in_err-item-clause-first c =
     let p = err_from_is_err_and c.from_residual.result c.from_residual.ensures.1 in
-    let few : length c.loop-tree.items < most_items = omega (arith, ap length c.as_slice.ensures, c.if-as_slice-ge-MOST_ITEMS.false) in
+    let few : length c.loop-tree.items < most_items = omega (arith, ap length c.as_slice.ensures, c.if-as_slice-number.false, c.number.ensures) in
     rw (p.1, p.2)
     (AreRead-first c.in_err-item.field-0.0 c.args.trees.now c.loop-tree.sig c.loop-tree.items c.loop-tree.tree-index c.tree-item.result c.loop-tree.invariant c.loop-tree-test.true c.tree-item.is few
     (subst (λ (items : List Item). TellsFirst c.in_err-item.field-0.0 (item_faults (earlier_at c.loop-tree.sig items) (located c.tree-item.result))) c.as_slice-in-loop-tree.ensures c.in_err-item.ensures.first))
 
 pub loop-tree-preserved : goal.loop-tree-preserved
 loop-tree-preserved c =
-    let few : length c.loop-tree.items < most_items = omega (arith, ap length c.as_slice.ensures, c.if-as_slice-ge-MOST_ITEMS.false) in
+    let few : length c.loop-tree.items < most_items = omega (arith, ap length c.as_slice.ensures, c.if-as_slice-number.false, c.number.ensures) in
     let spelled = subst (λ (items : List Item). SpellsEntry (earlier_at c.loop-tree.sig items) (entry_of c.read_item.new.sig c.in_ok-item.item) (located c.tree-item.result)) c.as_slice-in-loop-tree.ensures c.in_ok-item.ensures.spelled in
     let clean = subst (λ (items : List Item). item_faults (earlier_at c.loop-tree.sig items) (located c.tree-item.result) ≡ []) c.as_slice-in-loop-tree.ensures c.in_ok-item.ensures.clean in
     AreRead-more c.args.trees.now c.loop-tree.sig c.read_item.new.sig c.loop-tree.items c.in_ok-item.item c.loop-tree.tree-index c.tree-item.result c.loop-tree.invariant c.loop-tree-test.true c.tree-item.is few c.in_ok-item.ensures.symbols spelled clean c.push.new.self c.in_ok-push.ensures.ok

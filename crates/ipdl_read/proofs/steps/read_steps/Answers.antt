@@ -15,7 +15,7 @@ returns-in_err-read_step-clause-first c =
     let read = map step_of c.loop-part.steps in
     let next = all_located-drop c.args.parts.now c.part-item.result c.loop-part.part-index c.loop-part-test.true c.part-item.is in
     let P : Forest → Type 0 = λ ts. AreStepsSoFar E c.args.before c.loop-part.count read ts (all_located c.args.parts.now) in
-    let room : suc c.loop-part.count ≤ 2_048 = omega (arith, c.if-count-ge-MOST_STEPS.false) in
+    let room : suc c.loop-part.count ≤ 2_048 = omega (arith, c.if-count-number.false, c.number.ensures) in
     rw (p.1, p.2)
     (AreStepsSoFar-fault E c.args.before c.loop-part.count read c.in_err-read_step.field-0.0 (located c.part-item.result) _ (all_located c.args.parts.now) (subst P next c.loop-part.invariant) room c.in_err-read_step.ensures.first)
 

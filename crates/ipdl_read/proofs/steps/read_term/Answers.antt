@@ -1,5 +1,5 @@
-use Rattle.std.proofs.Common.{◌≡◌, Some, sym, ◌∙◌, subst}
-use Rattle.ipdl_term.specs.Rules.{RuleKind, at_reactions, at_protocols, row_of, heading_of}
+use Rattle.std.proofs.Common.{Some, sym, ◌∙◌, subst}
+use Rattle.ipdl_term.specs.Rules.{at_reactions, at_protocols, row_of, heading_of}
 use Rattle.ipdl_term.specs.Steps.{rule_of}
 use Rattle.ipdl_term.specs.Views.{term_of}
 use Rattle.ipdl_tree.specs.Views.{located}

@@ -1,9 +1,12 @@
 //! Tests of the calls of the libraries, beside the crates that have them: a crate with tests is
-//! proved twice. Each public call is run, and each row's answer was worked out by hand.
+//! proved twice. Each call that no program makes is run, and each row's answer was worked out by
+//! hand.
 #![tactic(auto)]
 
 #[cfg(test)]
 mod building;
+#[cfg(test)]
+mod contexts;
 #[cfg(test)]
 mod printing;
 #[cfg(test)]
@@ -16,3 +19,5 @@ mod terms;
 mod trees;
 #[cfg(test)]
 mod typing;
+#[cfg(test)]
+mod variables;

@@ -1,45 +1,30 @@
-//! Documents: one that is read, and one that is refused. The table of `ipdl_rows` has the others.
+//! Documents: that their protocols are found. The table of `ipdl_rows` has what is refused.
 
-use ipdl_base::{Name, Pos};
-use ipdl_forms::{DocFault, Document, FormCause};
-use ipdl_read::read_document;
-use ipdl_tree::read_tree;
+use crate::building::document;
+use ipdl_base::Name;
+use ipdl_forms::Document;
 use std::alloc::Global;
-use std::test::Fail;
 
-// What reading a source answers.
-fn read(alloc: Global, source: &[u8]) -> Result<Result<Document, DocFault>, Fail> {
-    if source.len() > 1_048_576 {
-        return Err("a long source")?;
-    }
-    let tree = read_tree(alloc, source)?;
-    Ok(read_document(alloc, &tree))
+// Whether the document has a protocol of this name.
+fn has_protocol(alloc: Global, document: &Document, text: &str) -> Option<bool> {
+    let name = Name::read(alloc, text).ok()?;
+    Some(document.protocol(&name).is_some())
+}
+
+// Whether it has two items, of which A is a protocol and f is none.
+fn has_two(alloc: Global, document: &Document) -> bool {
+    document.items.as_slice().len() == 2
+        && has_protocol(alloc, document, "A") == Some(true)
+        && has_protocol(alloc, document, "f") == Some(false)
 }
 
 #[test]
-fn finds_protocols(rt: HostRuntime) -> Result<(), Fail> {
+fn finds_protocols(rt: HostRuntime) {
     let alloc = rt.alloc();
-    let source = b"(ipdl 1 (fun f 1 1) (protocol A (inputs) (outputs (c 1)) (out c (flip 1))))";
-    match read(alloc, source.as_slice())? {
-        Ok(document) => {
-            assert_eq!(rt; document.items.as_slice().len(), 2);
-            assert!(rt; document.protocol(&Name::read(alloc, "A")?).is_some());
-            assert!(rt; document.protocol(&Name::read(alloc, "f")?).is_none());
-        }
-        Err(_) => Err("it was refused")?,
-    }
-    Ok(())
-}
-
-#[test]
-fn refuses_documents(rt: HostRuntime) -> Result<(), Fail> {
-    let fault = DocFault::Form {
-        pos: Pos(6),
-        cause: FormCause::NotAForm,
-    };
-    assert_eq!(rt;
-        read(rt.alloc(), b"(ipdl 2)")?.err().ok_or("it was read")?,
-        fault
+    let source = "(ipdl 1 (fun f 1 1) (protocol A (inputs) (outputs (c 1)) (out c (flip 1))))";
+    let read = document(alloc, source);
+    assert!(rt;
+        read.as_ref()
+            .is_some_and(|document| has_two(alloc, document))
     );
-    Ok(())
 }

@@ -1,26 +1,18 @@
-//! Trees: what is written of a text that is read, and two refusals.
+//! Trees: what is written of a text that is read, and the offsets of its parts.
 
+use crate::building::tree;
 use ipdl_base::Pos;
-use ipdl_tree::{Node, SpellCause, Tree, TreeFault, read_tree, write_tree};
+use ipdl_tree::{Node, Tree, write_tree};
 use std::alloc::Global;
-use std::test::Fail;
 
-// What reading answers.
-fn read(alloc: Global, source: &[u8]) -> Result<Result<Tree, TreeFault>, Fail> {
-    if source.len() > 1_048_576 {
-        return Err("a long source")?;
-    }
-    Ok(read_tree(alloc, source))
-}
-
-// Whether the source is read, and what is written of its tree is the text.
-fn is_written(alloc: Global, source: &[u8], text: &[u8]) -> Result<bool, Fail> {
-    let tree = read(alloc, source)??;
-    Ok(write_tree(alloc, &tree)?.as_slice() == text)
+// Whether the text is written of the tree that the source spells.
+fn is_written(alloc: Global, source: &str, text: &str) -> Option<bool> {
+    let written = write_tree(alloc, &tree(alloc, source)?).ok()?;
+    Some(written.as_slice() == text.as_bytes())
 }
 
 #[test]
-fn reads_and_writes(rt: HostRuntime) -> Result<(), Fail> {
+fn reads_and_writes(rt: HostRuntime) {
     for (source, text) in [
         ("(ipdl  1 )", "(ipdl 1)"),
         ("(a(b)c)", "(a (b) c)"),
@@ -34,55 +26,42 @@ fn reads_and_writes(rt: HostRuntime) -> Result<(), Fail> {
         ("a;é", "a"),
     ] {
         assert!(rt;
-            is_written(rt.alloc(), source.as_bytes(), text.as_bytes())?,
+            is_written(rt.alloc(), source, text) == Some(true),
             "{source}"
         );
     }
-    Ok(())
 }
 
-// The offsets of a tree's parts, and none of a token.
-fn offsets(alloc: Global, tree: &Tree) -> Result<Vec<u32>, Fail> {
-    let mut offsets = Vec::new(alloc);
-    if let Node::Group(parts) = &tree.node {
-        for part in parts {
-            offsets.push(part.pos.0)?;
-        }
+// Whether the parts of a group stand at these offsets.
+fn has_parts_at(tree: &Tree, offsets: &[u32]) -> bool {
+    let Node::Group(parts) = &tree.node else {
+        return false;
+    };
+    parts.len() == offsets.len()
+        && parts
+            .iter()
+            .zip(offsets)
+            .all(|(part, wanted)| part.pos == Pos(*wanted))
+}
+
+// The last part of a group.
+fn last_part(tree: &Tree) -> Option<&Tree> {
+    match &tree.node {
+        Node::Group(parts) => parts.as_slice().last(),
+        _ => None,
     }
-    Ok(offsets)
+}
+
+fn tells(alloc: Global) -> Option<bool> {
+    let tree = tree(alloc, " (ab 7;x\n#01 (c))")?;
+    Some(
+        tree.pos == Pos(1)
+            && has_parts_at(&tree, &[2, 5, 9, 13])
+            && has_parts_at(last_part(&tree)?, &[14]),
+    )
 }
 
 #[test]
-fn refuses_texts(rt: HostRuntime) -> Result<(), Fail> {
-    for (source, fault) in [
-        (
-            b"(a \xE8\xAA )".as_slice(),
-            TreeFault::Spell {
-                pos: Pos(3),
-                cause: SpellCause::BadByte,
-            },
-        ),
-        ([b'('; 201].as_slice(), TreeFault::Deep { pos: Pos(200) }),
-    ] {
-        assert_eq!(rt; read(rt.alloc(), source)?.err(), Some(fault));
-    }
-    Ok(())
-}
-
-#[test]
-fn tells_offsets(rt: HostRuntime) -> Result<(), Fail> {
-    let tree = read(rt.alloc(), b" (ab 7;x\n#01 (c))")??;
-    assert_eq!(rt; tree.pos, Pos(1));
-    assert_eq!(rt;
-        offsets(rt.alloc(), &tree)?.as_slice(),
-        [2, 5, 9, 13].as_slice()
-    );
-    if let Node::Group(parts) = &tree.node {
-        for part in parts {
-            if part.pos == Pos(13) {
-                assert_eq!(rt; offsets(rt.alloc(), part)?.as_slice(), [14].as_slice());
-            }
-        }
-    }
-    Ok(())
+fn tells_offsets(rt: HostRuntime) {
+    assert!(rt; tells(rt.alloc()) == Some(true));
 }

@@ -5,7 +5,7 @@ use Rattle.std.specs.Prelude.{All, IfSome, if◌then◌else◌}
 use Rattle.ipdl_base.specs.BitsLaws.{length-bits_of}
 use Rattle.ipdl_term.specs.Channels.{same_channel, has}
 use Rattle.ipdl_term.specs.Contexts.{context_outputs, IsTypedContext, Closes}
-use Rattle.ipdl_term.specs.Interpretations.{Symbol, Signature, Function, Interpretation, HaveWidths, table_entries, IsFunctionOf, Interprets}
+use Rattle.ipdl_term.specs.Interpretations.{SymbolShape, Signature, Function, Interpretation, HaveWidths, table_entries, IsFunctionOf, Interprets}
 use Rattle.ipdl_term.specs.Terms.{Value, Channel, assignment, Context, in_left}
 use Rattle.ipdl_term.specs.Typing.{Scope, GivesWidth, scope_of, port_names}
 use Rattle.ipdl_term.specs.declared.interface.Interface.{Interface}
@@ -45,7 +45,7 @@ widths_of_table from to i [] h k d l = absurd (omega arith)
 widths_of_table from to i (v ∷ values) h zero d l = h.1
 widths_of_table from to i (v ∷ values) h (suc k) d l = widths_of_table from to (suc i) values h.2 k d (omega arith)
 
-widths_of_symbol : (s : Symbol) (f : Function) → IsFunctionOf s f → IfSome s.values (λ values. All (λ (v : Value). length v ≡ s.to) values)
+widths_of_symbol : (s : SymbolShape) (f : Function) → IsFunctionOf s f → IfSome s.values (λ values. All (λ (v : Value). length v ≡ s.to) values)
 widths_of_symbol s f is = go s.values is.table
   where
     go : (o : Option (List Value)) → IfSome o (λ values. f.entries ≡ table_entries s.from 0 values) → IfSome o (λ values. All (λ (v : Value). length v ≡ s.to) values)

@@ -5,7 +5,7 @@ use Rattle.std.proofs.lemmas.List.{length-drop, length-take-le, length-map}
 use Rattle.std.specs.Prelude.{if◌then◌else◌, nat_eq, nat_le, slice_get}
 use Rattle.ipdl_base.specs.Bits.{same_bits, zip_bits, xor}
 use Rattle.ipdl_term.specs.Channels.{same_channel, has, outputs}
-use Rattle.ipdl_term.specs.Interpretations.{Symbol, Signature, Function, Interpretation, HaveWidths, IsFunctionOf, Interprets, zeros, entry_value, function_value, symbol_value, variable_value, at_one_width, cat_value, cut_value, chosen, evaluation}
+use Rattle.ipdl_term.specs.Interpretations.{SymbolShape, Signature, Function, Interpretation, HaveWidths, IsFunctionOf, Interprets, zeros, entry_value, function_value, symbol_value, variable_value, at_one_width, cat_value, cut_value, chosen, evaluation}
 use Rattle.ipdl_term.specs.Protocols.{coins, written, after_rounds, round, protocol_valuation}
 use Rattle.ipdl_term.specs.Reactions.{Outcome, with_bit, first_bits, with_tape, continued, reaction_outcome}
 use Rattle.ipdl_term.specs.Surroundings.{FitWidths}
@@ -61,14 +61,14 @@ length-entry_value from to (e ∷ entries) key default h k = by_test (same_bits 
     (λ t. ap length (if-false (same_bits e.0 key) _ _ t) ∙ length-entry_value from to entries key default h.2 k)
 
 -- a function of a symbol at an argument of its width
-length-function_value : (s : Symbol) (g : Function) (a : Value) → IsFunctionOf s g → length a ≡ s.from → length (function_value g a) ≡ s.to
+length-function_value : (s : SymbolShape) (g : Function) (a : Value) → IsFunctionOf s g → length a ≡ s.from → length (function_value g a) ≡ s.to
 length-function_value s g a h k =
     let at_width : length a ≡ g.from = k ∙ sym h.from in
     let e : nat_eq (length a) g.from ≡ true = grind (arith, nat_tests) in
     rw e (length-entry_value s.from s.to g.entries a (zeros g.to) h.entries (length-zeros g.to ∙ h.to))
 
 -- a symbol at an argument of its width
-length-symbol_value : (sig : Signature) (J : Interpretation) (f : ℕ) (s : Symbol) (a : Value) → Interprets sig J → slice_get sig f ≡ Some s → length a ≡ s.from → length (symbol_value J f a) ≡ s.to
+length-symbol_value : (sig : Signature) (J : Interpretation) (f : ℕ) (s : SymbolShape) (a : Value) → Interprets sig J → slice_get sig f ≡ Some s → length a ≡ s.from → length (symbol_value J f a) ≡ s.to
 length-symbol_value [] [] f s a h i k = cc
 length-symbol_value [] (g ∷ J) f s a h i k = absurd h
 length-symbol_value (u ∷ sig) [] f s a h i k = absurd h

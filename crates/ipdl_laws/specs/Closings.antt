@@ -2,7 +2,7 @@
 use Rattle.std.specs.Prelude.{◌≡◌, ℕ, List, [], ◌∷◌, ◌++◌, Option, Some, None, All, length, IfSome, if◌then◌else◌}
 use Rattle.ipdl_term.specs.Channels.{has}
 use Rattle.ipdl_term.specs.Contexts.{context_outputs}
-use Rattle.ipdl_term.specs.Interpretations.{Symbol, Signature, Interpretation, table_entries, zeros}
+use Rattle.ipdl_term.specs.Interpretations.{SymbolShape, Signature, Interpretation, table_entries, zeros}
 use Rattle.ipdl_term.specs.Terms.{Value, Channel, literal, Reaction, returning, reading, assignment, Context, hole, in_left}
 use Rattle.ipdl_term.specs.Typing.{Scope, scope_of, port_names}
 use Rattle.ipdl_term.specs.declared.interface.Interface.{Interface}
@@ -11,7 +11,7 @@ use Rattle.ipdl_term.specs.declared.interface.Interface.{Interface}
 
 -- the values of each table have the width of its result
 abbrev pub TablesHaveWidths : Signature → Type 0
-TablesHaveWidths sig = All (λ (s : Symbol). IfSome s.values (λ values. All (λ (v : Value). length v ≡ s.to) values)) sig
+TablesHaveWidths sig = All (λ (s : SymbolShape). IfSome s.values (λ values. All (λ (v : Value). length v ≡ s.to) values)) sig
 
 -- the entries of a table, and none for an abstract symbol
 abbrev pub symbol_entries : ℕ → Option (List Value) → List (Value × Value)

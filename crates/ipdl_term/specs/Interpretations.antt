@@ -5,14 +5,14 @@ use Rattle.ipdl_term.specs.Terms.{Value, Expression, literal, variable, outer, a
 
 -- ---- signatures and interpretations
 
--- a symbol: its two widths, and, of a table, its values in the order of the arguments
-pub record Symbol : Type 0 where
+-- what is known of a symbol but its name: its two widths, and, of a table, its values in the order of the arguments
+pub record SymbolShape : Type 0 where
   pub from : ℕ
   pub to : ℕ
   pub values : Option (List Value)
 
 abbrev pub Signature : Type 0
-Signature = List Symbol
+Signature = List SymbolShape
 
 -- what a symbol stands for: its two widths, and a finite map, of which the first entry of a key counts
 pub record Function : Type 0 where
@@ -35,7 +35,7 @@ table_entries from i [] = []
 table_entries from i (v ∷ values) = (bits_of from i, v) ∷ table_entries from (suc i) values
 
 -- a function of the symbol's widths, and the table itself where the symbol is a table
-pub record IsFunctionOf (s : Symbol) (f : Function) : Type 0 where
+pub record IsFunctionOf (s : SymbolShape) (f : Function) : Type 0 where
   pub from : f.from ≡ s.from
   pub to : f.to ≡ s.to
   pub entries : HaveWidths s.from s.to f.entries

@@ -1,6 +1,6 @@
 -- Steps of scripts as plain data, and the rules and steps that the types of the program stand for.
 use Rattle.std.specs.Prelude.{ℕ, List}
-use Rattle.ipdl_term.specs.Rules.{Rule, rule_word}
+use Rattle.ipdl_term.specs.Rules.{Rule}
 use Rattle.ipdl_term.specs.Rules as R
 use Rattle.ipdl_term.specs.Terms.{Channel, Term}
 use Rattle.ipdl_term.specs.Views.{expression_of, term_of}
@@ -67,7 +67,3 @@ abbrev pub step_of : HeldStep → Step
 step_of (Plain path rule) = plain path (rule_of rule)
 step_of (Rev path rule term) = rev path (rule_of rule) (term_of term)
 step_of (Invoke path name dir pairs) = invoke path name (direction_of dir) pairs
-
--- the word of a rule as the program holds it
-abbrev pub held_word : HeldRule → List ℕ
-held_word rule = rule_word (rule_of rule)

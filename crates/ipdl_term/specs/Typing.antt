@@ -1,7 +1,7 @@
 -- Typed terms: one condition for each form.
 use Rattle.std.specs.Prelude.{◌≡◌, ℕ, ◌+◌, ◌≤◌, true, List, [], ◌∷◌, ◌++◌, Option, Some, None, length, map, slice_get, if◌then◌else◌}
 use Rattle.ipdl_term.specs.Terms.{Channel, Expression, literal, variable, outer, application, exclusive, conjunction, negation, concatenation, segment, equality, selection, Reaction, returning, flipping, reading, branching, binding, Protocol, nil, assignment, parallel, hiding}
-use Rattle.ipdl_term.specs.Interpretations.{Symbol, Signature}
+use Rattle.ipdl_term.specs.Interpretations.{SymbolShape, Signature}
 use Rattle.ipdl_term.specs.Channels.{same_channel, has, outputs, SameSet, AreDisjoint}
 use Rattle.ipdl_term.specs.declared.interface.Port.{Port}
 use Rattle.ipdl_term.specs.declared.interface.Interface.{Interface}
@@ -23,7 +23,7 @@ HasWidth sig widths (literal bits) w = length bits ≡ w
 HasWidth sig widths (variable n) w = slice_get widths n ≡ Some w
 HasWidth sig widths (outer n) w = ⊥
 HasWidth sig widths (application f e) w =
-    (s : Symbol) × (slice_get sig f ≡ Some s) × HasWidth sig widths e s.from × (s.to ≡ w)
+    (s : SymbolShape) × (slice_get sig f ≡ Some s) × HasWidth sig widths e s.from × (s.to ≡ w)
 HasWidth sig widths (exclusive a b) w = HasWidth sig widths a w × HasWidth sig widths b w
 HasWidth sig widths (conjunction a b) w = HasWidth sig widths a w × HasWidth sig widths b w
 HasWidth sig widths (negation a) w = HasWidth sig widths a w

@@ -3,7 +3,7 @@ use Rattle.std.proofs.Common.{◌≡◌, ℕ, ◌+◌, ◌==◌, nat_le, true, f
 use Rattle.std.specs.Prelude.{is_some, unwrap_or}
 use Rattle.std.proofs.lemmas.Bool.{eqb-true, leb-true, false≢true}
 use Rattle.ipdl_term.specs.Terms.{Expression, literal, variable, outer, application, exclusive, conjunction, negation, concatenation, segment, equality, selection, Reaction, returning, flipping, reading, branching, binding}
-use Rattle.ipdl_term.specs.Interpretations.{Symbol, Signature}
+use Rattle.ipdl_term.specs.Interpretations.{SymbolShape, Signature}
 use Rattle.ipdl_term.specs.Typing.{Scope, HasWidth, GivesWidth}
 use Rattle.ipdl_typing.specs.Checks.{Cause, width, unbound, no_symbol, unwritten, checked, child, symbol_to, symbol_from, has_width, expression_width, expression_failures, gives_width, reaction_width, reaction_failures}
 
@@ -34,7 +34,7 @@ width_is sig widths path e want clean typed =
     subst (HasWidth sig widths e) (eqb-true (expression_width sig widths e) want (checked-clean (expression_width sig widths e == want) path (width want (expression_width sig widths e)) clean)) typed
 
 -- a symbol that is there, at an argument of its width
-application_typed : (sig : Signature) (widths : List ℕ) (f : ℕ) (e : Expression) (o : Option Symbol) → slice_get sig f ≡ o → is_some o ≡ true → HasWidth sig widths e (symbol_from o) → HasWidth sig widths (application f e) (symbol_to o)
+application_typed : (sig : Signature) (widths : List ℕ) (f : ℕ) (e : Expression) (o : Option SymbolShape) → slice_get sig f ≡ o → is_some o ≡ true → HasWidth sig widths e (symbol_from o) → HasWidth sig widths (application f e) (symbol_to o)
 application_typed sig widths f e None at is typed = absurd (false≢true is)
 application_typed sig widths f e (Some s) at is typed = (s, at, typed, refl)
 

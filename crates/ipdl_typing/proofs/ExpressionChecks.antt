@@ -5,7 +5,7 @@ use Rattle.std.specs.Option.{option_map}
 use Rattle.std.specs.Prelude.{is_some}
 use Rattle.std.proofs.lemmas.Option.{slice_get-map}
 use Rattle.ipdl_sig.specs.declared.symbol.Symbol.{Symbol as Declared}
-use Rattle.ipdl_term.specs.Interpretations.{Symbol, Signature}
+use Rattle.ipdl_term.specs.Interpretations.{SymbolShape, Signature}
 use Rattle.ipdl_term.specs.Terms.{Expression, application, exclusive, conjunction, concatenation, segment, selection}
 use Rattle.ipdl_typing.specs.Answers.{TellsFirstFailure}
 use Rattle.ipdl_typing.specs.Checks.{Failure, width, no_symbol, checked, child, symbol_to, symbol_from, has_width, expression_width, expression_failures, wanted_failures}
@@ -36,16 +36,16 @@ application_unknown fault sig widths path t f e is first =
     subst (Says (TellsFirstFailure fault) sig widths path) (sym is) (TellsFirstFailure-in_front fault (known ++ inner) last (TellsFirstFailure-in_front fault known inner first))
 
 -- the argument is left
-pub application_rest : (Q : List Failure → Type 0) (sig : Signature) (widths path : List ℕ) (t : Expression) (f : ℕ) (e : Expression) (s : Symbol) → t ≡ application f e → slice_get sig f ≡ Some s → Q (wanted_failures sig widths (child path 0) e s.from) → Q (expression_failures sig widths path t)
+pub application_rest : (Q : List Failure → Type 0) (sig : Signature) (widths path : List ℕ) (t : Expression) (f : ℕ) (e : Expression) (s : SymbolShape) → t ≡ application f e → slice_get sig f ≡ Some s → Q (wanted_failures sig widths (child path 0) e s.from) → Q (expression_failures sig widths path t)
 application_rest Q sig widths path t f e s is at later =
     let known = checked (is_some (slice_get sig f)) path (no_symbol f) in
     let inner = expression_failures sig widths (child path 0) e in
     let last = has_width sig widths (child path 0) e (symbol_from (slice_get sig f)) in
-    let same : wanted_failures sig widths (child path 0) e s.from ≡ inner ++ last = ap (λ (o : Option Symbol). wanted_failures sig widths (child path 0) e (symbol_from o)) (sym at) in
+    let same : wanted_failures sig widths (child path 0) e s.from ≡ inner ++ last = ap (λ (o : Option SymbolShape). wanted_failures sig widths (child path 0) e (symbol_from o)) (sym at) in
     subst (Says Q sig widths path) (sym is) (subst Q (sym (append_assoc known inner last)) (after-clean Q known (inner ++ last) (ap (λ o. checked (is_some o) path (no_symbol f)) at) (subst Q same later)))
 
 -- the width of a symbol's result
-pub application_width : (sig : Signature) (widths : List ℕ) (t : Expression) (f : ℕ) (e : Expression) (s : Symbol) → t ≡ application f e → slice_get sig f ≡ Some s → s.to ≡ expression_width sig widths t
+pub application_width : (sig : Signature) (widths : List ℕ) (t : Expression) (f : ℕ) (e : Expression) (s : SymbolShape) → t ≡ application f e → slice_get sig f ≡ Some s → s.to ≡ expression_width sig widths t
 application_width sig widths t f e s is at =
     sym (ap (expression_width sig widths) is ∙ ap symbol_to at)
 

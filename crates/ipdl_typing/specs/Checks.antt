@@ -1,7 +1,7 @@
 -- The typing checks in their order: every check that fails, with its place and values. The first one is the answer.
 use Rattle.std.specs.Prelude.{ℕ, ◌+◌, ◌==◌, nat_le, not, Bool, true, false, List, [], ◌∷◌, ◌++◌, length, Option, Some, None, is_some, slice_get, unwrap_or, if◌then◌else◌}
 use Rattle.ipdl_term.specs.Terms.{Channel, Expression, literal, variable, outer, application, exclusive, conjunction, negation, concatenation, segment, equality, selection, Reaction, returning, flipping, reading, branching, binding, Protocol, nil, assignment, parallel, hiding}
-use Rattle.ipdl_term.specs.Interpretations.{Symbol, Signature}
+use Rattle.ipdl_term.specs.Interpretations.{SymbolShape, Signature}
 use Rattle.ipdl_term.specs.Channels.{same_channel, has, union, without, outputs}
 use Rattle.ipdl_term.specs.Typing.{Scope, scope_with}
 use Rattle.ipdl_term.specs.declared.interface.Port.{Port}
@@ -36,12 +36,12 @@ child path n = path ++ n ∷ []
 -- ---- expressions: the widths of the binders are given, that of variable 0 first
 
 -- the width of a symbol's result, 0 where there is no symbol
-abbrev pub symbol_to : Option Symbol → ℕ
+abbrev pub symbol_to : Option SymbolShape → ℕ
 symbol_to None = 0
 symbol_to (Some s) = s.to
 
 -- the width of a symbol's argument, 0 where there is no symbol
-abbrev pub symbol_from : Option Symbol → ℕ
+abbrev pub symbol_from : Option SymbolShape → ℕ
 symbol_from None = 0
 symbol_from (Some s) = s.from
 

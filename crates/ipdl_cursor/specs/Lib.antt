@@ -1,0 +1,4 @@
+pub mod Views
+pub mod Hidden
+pub mod Children
+pub mod Boundaries

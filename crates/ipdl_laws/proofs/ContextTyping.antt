@@ -10,7 +10,7 @@ use Rattle.ipdl_term.specs.Terms.{Channel, Protocol, Context, hole, in_left, in_
 use Rattle.ipdl_term.specs.Typing.{Scope, scope_with, IsTyped}
 use Rattle.ipdl_laws.specs.Holes.{hole_scope}
 use Rattle.ipdl_laws.proofs.Contexts.{plugged-nested, outputs-plugged}
-use Rattle.ipdl_laws.proofs.RuleTyping.{IsTyped_agree}
+use Rattle.ipdl_laws.proofs.ScopesAgree.{IsTyped_agree}
 use Rattle.ipdl_laws.proofs.Sets.{by_test, if-true, if-false, union_same_left, union_same_right, without_same, AreDisjoint_same, AreDisjoint_swap}
 use Rattle.ipdl_laws.proofs.Visible.{free_channels_visible}
 

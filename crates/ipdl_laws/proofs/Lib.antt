@@ -19,9 +19,8 @@ pub mod Chances
 pub mod Products
 pub mod Structure
 pub mod Grouping
-pub mod RuleTyping
+pub mod ScopesAgree
 pub mod ContextTyping
-pub mod RuleLaws
 pub mod Numbers
 pub mod FlatLaws
 pub mod Histories

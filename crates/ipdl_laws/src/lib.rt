@@ -6,5 +6,4 @@ pub mod equality;
 pub mod meaning;
 pub mod nontrivial;
 pub mod places;
-pub mod rules;
 pub mod terms;

@@ -1,5 +1,0 @@
-use Rattle.ipdl_laws.proofs.Grouping.{alike_assocl}
-use Rattle.ipdl_laws.proofs.rules.assocl_is_alike.Goals as goal
-
-pub returns : goal.returns
-returns c = alike_assocl

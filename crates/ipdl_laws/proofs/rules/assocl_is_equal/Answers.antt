@@ -1,5 +1,0 @@
-use Rattle.ipdl_laws.proofs.RuleLaws.{assocl_is_equal}
-use Rattle.ipdl_laws.proofs.rules.assocl_is_equal.Goals as goal
-
-pub returns : goal.returns
-returns c = assocl_is_equal

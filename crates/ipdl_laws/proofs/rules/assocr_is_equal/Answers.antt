@@ -1,5 +1,0 @@
-use Rattle.ipdl_laws.proofs.RuleLaws.{assocr_is_equal}
-use Rattle.ipdl_laws.proofs.rules.assocr_is_equal.Goals as goal
-
-pub returns : goal.returns
-returns c = assocr_is_equal

@@ -1,5 +1,0 @@
-use Rattle.ipdl_laws.proofs.Congruence.{alike_comm}
-use Rattle.ipdl_laws.proofs.rules.comm_is_alike.Goals as goal
-
-pub returns : goal.returns
-returns c = alike_comm

@@ -1,5 +1,0 @@
-use Rattle.ipdl_laws.proofs.RuleLaws.{comm_is_equal}
-use Rattle.ipdl_laws.proofs.rules.comm_is_equal.Goals as goal
-
-pub returns : goal.returns
-returns c = comm_is_equal

@@ -1,5 +1,0 @@
-use Rattle.ipdl_laws.proofs.Structure.{alike_newswap}
-use Rattle.ipdl_laws.proofs.rules.newswap_is_alike.Goals as goal
-
-pub returns : goal.returns
-returns c = alike_newswap

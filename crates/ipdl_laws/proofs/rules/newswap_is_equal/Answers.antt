@@ -1,5 +1,0 @@
-use Rattle.ipdl_laws.proofs.RuleLaws.{newswap_is_equal}
-use Rattle.ipdl_laws.proofs.rules.newswap_is_equal.Goals as goal
-
-pub returns : goal.returns
-returns c = newswap_is_equal

@@ -1,5 +1,0 @@
-use Rattle.ipdl_laws.proofs.Grouping.{alike_scope}
-use Rattle.ipdl_laws.proofs.rules.scope_is_alike.Goals as goal
-
-pub returns : goal.returns
-returns c = alike_scope

@@ -1,5 +1,0 @@
-use Rattle.ipdl_laws.proofs.RuleLaws.{scope_is_equal}
-use Rattle.ipdl_laws.proofs.rules.scope_is_equal.Goals as goal
-
-pub returns : goal.returns
-returns c = scope_is_equal

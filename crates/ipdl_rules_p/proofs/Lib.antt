@@ -1,0 +1,6 @@
+pub mod RuleTyping
+pub mod RuleLaws
+pub mod InstanceLaws
+pub mod InstanceMeanings
+pub mod AnswerLaws
+pub mod FreeChannels

@@ -1,0 +1,5 @@
+use Rattle.ipdl_laws.proofs.Grouping.{alike_assocr}
+use Rattle.ipdl_rules_p.proofs.rules.assocr_is_alike.Goals as goal
+
+pub returns : goal.returns
+returns c = alike_assocr

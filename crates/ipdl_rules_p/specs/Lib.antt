@@ -1,0 +1,5 @@
+pub mod Instances
+pub mod Matching
+pub mod RightSides
+pub mod Answers
+pub mod Worked

@@ -1,0 +1,4 @@
+pub mod Chains
+pub mod Views
+pub mod ChainTexts
+pub mod Worked

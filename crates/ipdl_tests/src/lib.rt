@@ -6,11 +6,17 @@
 #[cfg(test)]
 mod building;
 #[cfg(test)]
+mod chains;
+#[cfg(test)]
 mod contexts;
+#[cfg(test)]
+mod places;
 #[cfg(test)]
 mod printing;
 #[cfg(test)]
 mod reading;
+#[cfg(test)]
+mod rules;
 #[cfg(test)]
 mod symbols;
 #[cfg(test)]

@@ -35,11 +35,11 @@ fn compares_parts() -> bool {
     Part::E(Expr::Var(0)) != Part::R(React::Ret(Expr::Var(0)))
 }
 
-fn protocol_part(alloc: Global, term: &Proto) -> Result<Part, NoMemory> {
+pub(crate) fn protocol_part(alloc: Global, term: &Proto) -> Result<Part, NoMemory> {
     Ok(Part::P(copy_proto(alloc, term)?))
 }
 
-fn reaction_part(alloc: Global, term: &React) -> Result<Part, NoMemory> {
+pub(crate) fn reaction_part(alloc: Global, term: &React) -> Result<Part, NoMemory> {
     Ok(Part::R(copy_react(alloc, term)?))
 }
 

@@ -1,0 +1,24 @@
+-- Sets of names that grow by a name, or by the names of a term after those of another.
+use Rattle.std.proofs.Common.{◌≡◌, Bool, true, false, ◌||◌, List, [], ◌∷◌, ◌++◌, refl, sym, ap, ◌∙◌, subst}
+use Rattle.ipdl_term.proofs.ChannelSets.{same_channel-sound, has-append}
+use Rattle.ipdl_term.specs.Channels.{has, same_channel}
+use Rattle.ipdl_term.specs.Terms.{Channel}
+
+-- a name that is there adds nothing
+pub has_it : (names : List Channel) (name : Channel) → has names name ≡ true → (c : Channel) → has names c ≡ (has (name ∷ []) c || has names c)
+has_it names name h c = go (same_channel name c) refl
+  where
+    go : (b : Bool) → same_channel name c ≡ b → has names c ≡ ((b || false) || has names c)
+    go true e = subst (λ d. has names d ≡ true) (same_channel-sound name c e) h
+    go false e = refl
+
+both : (p q old mid new : Bool) → mid ≡ (p || old) → new ≡ (q || mid) → new ≡ ((p || q) || old)
+both true true old mid new m n = n
+both true false old mid new m n = n ∙ m
+both false true old mid new m n = n
+both false false old mid new m n = n ∙ m
+
+pub added : (first second old mid new : List Channel) → ((c : Channel) → has mid c ≡ (has first c || has old c)) → ((c : Channel) → has new c ≡ (has second c || has mid c)) →
+    (c : Channel) → has new c ≡ (has (first ++ second) c || has old c)
+added first second old mid new m n c =
+    both (has first c) (has second c) (has old c) (has mid c) (has new c) (m c) (n c) ∙ ap (λ b. b || has old c) (sym (has-append first second c))

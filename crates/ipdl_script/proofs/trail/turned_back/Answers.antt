@@ -1,0 +1,27 @@
+use Rattle.std.proofs.Common.{rules, ◌≡◌, ◌++◌, length, take, ap, ap₂, sym, ◌∙◌}
+use Rattle.std.proofs.lemmas.List.Elements.{All-take, All-same}
+use Rattle.ipdl_script.proofs.TrailLists.{back_links-turned, back_links-take}
+use Rattle.ipdl_script.specs.Fitting.{WholeFits}
+use Rattle.ipdl_script.specs.Trails.{back_links, trail_links}
+use Rattle.ipdl_term.specs.Views.{protocol_of}
+use Rattle.ipdl_term.specs.declared.protocol.Proto.{Proto}
+use Rattle.ipdl_script.proofs.trail.turned_back.Goals as goal
+
+pub returns-clause-links : goal.returns-clause-links
+returns-clause-links c =
+    let marks : c.into_vec-marks.result.items ≡ c.args.rights.marks = c.into_vec-marks.ensures in
+    let len : c.len.result ≡ length c.into_vec-marks.result.items = search rules in
+    let terms : c.truncate.new.self.items ≡ take (length c.args.rights.marks) c.args.rights.terms =
+    c.truncate.ensures.items ∙ ap₂ take (len ∙ ap length marks) c.into_vec-terms.ensures in
+    c.in_ok-push_back.ensures.links
+    ∙ ap (λ links. trail_links c.args.lefts ++ links)
+    (ap₂ back_links marks terms ∙ back_links-take c.args.rights.marks c.args.rights.terms ∙ sym (back_links-turned c.args.rights.marks c.args.rights.terms))
+
+pub returns-clause-trail : goal.returns-clause-trail
+returns-clause-trail c = λ symbols left right.
+    let marks : c.into_vec-marks.result.items ≡ c.args.rights.marks = c.into_vec-marks.ensures in
+    let len : c.len.result ≡ length c.into_vec-marks.result.items = search rules in
+    let terms : c.truncate.new.self.items ≡ take (length c.args.rights.marks) c.args.rights.terms =
+    c.truncate.ensures.items ∙ ap₂ take (len ∙ ap length marks) c.into_vec-terms.ensures in
+    let Fit : Proto → Type 0 = λ term. WholeFits symbols (protocol_of term) in
+    c.in_ok-push_back.ensures.trail symbols left (All-same Fit _ _ terms (All-take Fit (length c.args.rights.marks) c.args.rights.terms right.fit))

@@ -1,0 +1,15 @@
+pub mod Instances
+pub mod Settling
+pub mod Steps
+pub mod EndPlaces
+pub mod Differences
+pub mod Scripts
+pub mod Meanings
+pub mod Views
+pub mod Answers
+pub mod Worked
+pub mod Fitting
+pub mod TestGroups
+pub mod Trails
+pub mod HiddenNames
+pub mod Ready

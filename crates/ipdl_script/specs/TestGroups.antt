@@ -1,0 +1,65 @@
+-- The tests of a step in groups, as the calls make them: those of the part at the place, and those of the new whole term.
+use Rattle.std.specs.Prelude.{◌≡◌, List, [], ◌∷◌, Option, None, Result, Ok, Err, IsSomeAnd}
+use Rattle.ipdl_rules_p.specs.Matching as P
+use Rattle.ipdl_script.specs.Answers.{TellsRefusal, TellsWrong}
+use Rattle.ipdl_script.specs.Instances.{Answer, other_shape, answer_of_protocols}
+use Rattle.ipdl_script.specs.Scripts.{Wrong}
+use Rattle.ipdl_script.specs.Settling.{unsettled_in_step}
+use Rattle.ipdl_script.specs.Steps.{Setting, Refusal, depth_at, settled_there, place_test, variable_test, match_test, side_test, size_test, result_test, channels_test, depth_test, type_test, part_of, answered_there, first_refusal, place_of, after_step}
+use Rattle.ipdl_script.specs.declared.fault.ScriptFault.{ScriptFault}
+use Rattle.ipdl_script.specs.declared.fault.StepFault.{StepFault}
+use Rattle.ipdl_term.specs.Places.{AreOfOneKind, protocol_or, term_with}
+use Rattle.ipdl_term.specs.Rules.{Rule}
+use Rattle.ipdl_term.specs.Steps.{Step}
+use Rattle.ipdl_term.specs.Terms.{Protocol, Term, protocol_term}
+
+-- a call passes where nothing refuses, and else tells the refusal
+abbrev pub AnswersTest : {X : Type 0} → Result X StepFault → Option Refusal → Type 0
+AnswersTest (Ok value) refusal = refusal ≡ None
+AnswersTest (Err fault) refusal = TellsRefusal fault refusal
+
+-- a call for scripts finds nothing wrong, and else tells what is
+abbrev pub AnswersScripts : {X : Type 0} → Result X ScriptFault → Option Wrong → Type 0
+AnswersScripts (Ok value) wrong = wrong ≡ None
+AnswersScripts (Err fault) wrong = TellsWrong fault wrong
+
+-- ---- the answer of a rule
+
+-- What a rule for protocols answers to its left side, where this part stands at the place. It asks both to be protocols.
+abbrev pub protocol_answer : Rule → (left part : Term) → Answer
+protocol_answer rule (protocol_term left) (protocol_term part) = answer_of_protocols (P.answer rule left)
+protocol_answer rule _ _ = other_shape
+
+-- what refuses an answer: no left side, a side condition, or too large a right side
+abbrev pub answer_refusal : Answer → Option Refusal
+answer_refusal answered = first_refusal (match_test answered ∷ side_test answered ∷ size_test answered ∷ [])
+
+-- or, for `rev`, another right side than the part at the place
+abbrev pub change_refusal : Step → (part : Option Term) → Answer → Option Refusal
+change_refusal step part answered =
+    first_refusal (match_test answered ∷ side_test answered ∷ size_test answered ∷ result_test step part answered ∷ [])
+
+-- ---- the two groups
+
+-- the tests before the new whole term is made
+abbrev pub part_tests : Setting → Protocol → Step → List (Option Refusal)
+part_tests x before step =
+    place_test (part_of before step)
+    ∷ variable_test (unsettled_in_step (depth_at x before step) step)
+    ∷ match_test (answered_there x before step)
+    ∷ side_test (answered_there x before step)
+    ∷ size_test (answered_there x before step)
+    ∷ result_test (settled_there x before step) (part_of before step) (answered_there x before step)
+    ∷ []
+
+abbrev pub part_refusal : Setting → Protocol → Step → Option Refusal
+part_refusal x before step = first_refusal (part_tests x before step)
+
+-- the tests of the whole term that is made
+abbrev pub whole_refusal : Setting → (after : Protocol) → Option Refusal
+whole_refusal x after = first_refusal (channels_test after ∷ depth_test after ∷ type_test x after ∷ [])
+
+-- The step puts this part in the place of one of its kind: where the tests pass, that is the new whole term.
+pub record IsChanged (x : Setting) (before : Protocol) (step : Step) (new : Term) : Type 0 where
+  pub kind : IsSomeAnd (part_of before step) (λ old. AreOfOneKind old new)
+  pub whole : after_step x before step ≡ protocol_or before (term_with (protocol_term before) (place_of step) new)

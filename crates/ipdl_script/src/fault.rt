@@ -1,0 +1,80 @@
+//! Why a step is refused, and what is wrong with the scripts of a theorem.
+
+ghost use Rattle.std.specs.Prelude.{◌≡◌};
+ghost use Rattle.ipdl_script.specs.declared.fault.ScriptFault.TheVariants.{Memory as NoRoom};
+ghost use Rattle.ipdl_script.specs.declared.fault.StepFault.TheVariants.{Memory};
+
+use ipdl_base::{Limit, NoMemory, Path};
+use ipdl_typing::Ill;
+
+/// A side of a theorem, whose script starts at its protocol.
+#[derive(Clone, Copy, PartialEq, Eq, Debug)]
+pub enum Side {
+    Left,
+    Right,
+}
+
+/// Why a step is refused.
+#[derive(Drop)]
+pub enum Cause {
+    /// The path leaves the current term.
+    NoPlace,
+    /// The outer variable of this number, in an argument or in the term that is written out, has no
+    /// binder around the place.
+    NoVariable { number: u32 },
+    /// The place is of another kind than the rule, or the term has not its left shape.
+    NoMatch,
+    /// The side condition of this number, counted from 1, is the first that fails.
+    Side(u8),
+    /// The rule does not make the part at the place of the term that is written out.
+    NotResult,
+    /// The new whole term is not well typed at the theorem's interface.
+    IllTyped(Ill),
+}
+
+/// Why a step gives no term.
+#[derive(Drop)]
+pub enum StepFault {
+    /// The step is refused.
+    Refused(Cause),
+    /// A term would be too large.
+    Over(Limit),
+    /// Memory ran out.
+    Memory,
+}
+
+impl From<NoMemory> for StepFault {
+    ghost from_gives = { λ _ fault. fault ≡ Memory };
+
+    fn from(_error: NoMemory) -> StepFault {
+        StepFault::Memory
+    }
+}
+
+/// What is wrong with the scripts of a theorem.
+#[derive(Drop)]
+pub enum Wrong {
+    /// A step, counted from 1 on its side, is refused.
+    At { side: Side, step: u32, cause: Cause },
+    /// The scripts end in two terms, which differ first at this place.
+    Ends { path: Path },
+}
+
+/// Why the scripts of a theorem give no chain.
+#[derive(Drop)]
+pub enum ScriptFault {
+    /// The first thing that is wrong.
+    Wrong(Wrong),
+    /// A step, counted from 1 on its side, would make a term too large or the chain too long.
+    Over { limit: Limit, side: Side, step: u32 },
+    /// Memory ran out.
+    Memory,
+}
+
+impl From<NoMemory> for ScriptFault {
+    ghost from_gives = { λ _ fault. fault ≡ NoRoom };
+
+    fn from(_error: NoMemory) -> ScriptFault {
+        ScriptFault::Memory
+    }
+}

@@ -1,0 +1,62 @@
+//! The channels that are hidden in the terms of a chain.
+
+ghost use Rattle.std.specs.Prelude.{◌≡◌, ◌||◌, [], ◌∷◌, IfOk, OnOk};
+ghost use Rattle.ipdl_script.specs.HiddenNames.{hidden_in};
+ghost use Rattle.ipdl_term.specs.Renaming.{hidden_channels};
+ghost use Rattle.ipdl_term.specs.Channels.{SameSet, has};
+ghost use Rattle.ipdl_term.specs.Terms.{Channel};
+ghost use Rattle.ipdl_term.specs.Views.{protocol_of};
+
+use ipdl_base::{Name, NoMemory};
+use ipdl_term::{Names, Proto};
+use std::alloc::Global;
+
+// Adds a copy of the name, unless it is there.
+fn add_name(alloc: Global, names: &mut Names, name: &Name) -> Result<(), NoMemory>
+    ensures { OnOk result ((c : Channel) → has names.new c ≡ (has (name.now ∷ []) c || has names.old c)) }
+{
+    if names.has(name) {
+        return Ok(());
+    }
+    names.add(name.copy(alloc)?)
+}
+
+// Adds the channels that are hidden in the protocol.
+fn add_hidden(alloc: Global, names: &mut Names, proto: &Proto) -> Result<(), NoMemory>
+    ensures { OnOk result ((c : Channel) →
+        has names.new c ≡ (has (hidden_channels (protocol_of proto.now)) c || has names.old c)) }
+{
+    match proto {
+        Proto::Nil | Proto::Out(_, _) => Ok(()),
+        Proto::Par(p, q) => {
+            add_hidden(alloc, &mut *names, p)?;
+            add_hidden(alloc, names, q)
+        }
+        Proto::Hide(channel, _, p) => {
+            add_name(alloc, &mut *names, channel)?;
+            add_hidden(alloc, names, p)
+        }
+    }
+}
+
+// Adds those of several.
+fn add_hidden_in(alloc: Global, names: &mut Names, terms: &[Proto]) -> Result<(), NoMemory>
+    ensures { OnOk result ((c : Channel) → has names.new c ≡ (has (hidden_in terms.now) c || has names.old c)) }
+{
+    match terms.split_first() {
+        Some((term, rest)) => {
+            add_hidden(alloc, &mut *names, term)?;
+            add_hidden_in(alloc, names, rest)
+        }
+        None => Ok(()),
+    }
+}
+
+// The channels that are hidden in some of the terms.
+pub(crate) fn hidden_in(alloc: Global, terms: &[Proto]) -> Result<Names, NoMemory>
+    ensures { IfOk result (λ names. SameSet names (hidden_in terms.now)) }
+{
+    let mut names = Names::empty(alloc);
+    add_hidden_in(alloc, &mut names, terms)?;
+    Ok(names)
+}

@@ -1,0 +1,42 @@
+//! Scripts: what each step makes of the current whole term, what chain the two scripts of a theorem
+//! give, and what is wrong where they give none.
+#![tactic(auto)]
+
+mod chains;
+mod comparing;
+mod differences;
+mod fault;
+mod fitting;
+mod following;
+mod hidden;
+mod instances;
+mod marks;
+mod new_part;
+mod setting;
+mod spot;
+mod stepping;
+mod steps;
+mod theorem;
+mod trail;
+mod variables;
+mod worked;
+
+pub use chains::{
+    chain_exactly, chain_is_marked, chain_leads_across, chains_mean, one_chain, sides_are_equal,
+    terms_have_interface, wrong_is_first,
+};
+pub use comparing::differing_at;
+pub use differences::{differ_first, differ_nowhere, one_first_place};
+pub use fault::{Cause, ScriptFault, Side, StepFault, Wrong};
+pub use fitting::{small_step_fits, typed_whole_fits};
+pub use instances::{
+    instance_exactly, instance_is_equal, replaced_and_put_back, settled_arguments,
+};
+pub use setting::Setting;
+pub use stepping::take_step;
+pub use steps::{first_refusal_is_told, one_result, step_exactly, step_is_equal};
+pub use theorem::{Book, check_theorem};
+pub use worked::{
+    back_and_forward, each_cause, ends_that_differ, meeting_in_the_middle, one_exchange,
+    place_below_a_flip,
+};

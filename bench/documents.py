@@ -80,7 +80,36 @@ def reads():
     return document([f"(protocol P (inputs {inputs}) (outputs {ports(outputs)}) (par {' '.join(parts)}))"])
 
 
-DOCUMENTS = {"protocols": (protocols, "types"), "chains": (chains, "check"), "tables": (tables, "types"), "reads": (reads, "types")}
+def exchanges(channels, term):
+    """A theorem whose left script exchanges the last two of so many parts of a `par` 700 times."""
+    names = [f"channel_{i}" for i in range(channels)]
+    parts = " ".join(f"(out {name} {term})" for name in names)
+    place = " ".join(["1"] * (channels - 2))
+    steps = " ".join([f"(comm ({place}))"] * 700)
+    return document([
+        f"(protocol A (inputs) (outputs {ports(names, 8)}) (par {parts}))",
+        f"(theorem t A A (left {steps}) (right))",
+    ])
+
+
+def deep():
+    """700 exchanges deep in a `par` of 512 channels."""
+    return exchanges(512, "(flip 8)")
+
+
+def end():
+    """700 exchanges at the end of 300 channels: some 15 MB of text."""
+    return exchanges(300, "(bind x 8 (flip 8) (ret (not (not (not x)))))")
+
+
+DOCUMENTS = {
+    "protocols": (protocols, "types"),
+    "chains": (chains, "check"),
+    "tables": (tables, "types"),
+    "reads": (reads, "types"),
+    "deep": (deep, "check"),
+    "end": (end, "check"),
+}
 
 
 def measured(text, word, runs):

@@ -8,7 +8,7 @@ use Rattle.ipdl_top.specs.Checking.{IsCheckRefusal, IsCheckAnswer}
 use Rattle.ipdl_top.specs.Scripts.{script_refusal}
 use Rattle.ipdl_top.specs.Statuses.{Refusal}
 use Rattle.ipdl_top.specs.Typed.{IsTypedDocument}
-use Rattle.ipdl_top.proofs.Exchanges.{IsProvedDocument-none, script_refusal-proved}
+use Rattle.ipdl_top.proofs.Theorems.{IsProvedDocument-none, script_refusal-proved}
 use Rattle.ipdl_top.proofs.Named.{HaveSides}
 use Rattle.ipdl_top.proofs.Owed.{IsOwed, IsThereOne}
 

@@ -70,7 +70,7 @@ IsExpressionWithin-spelled scope (selection c a b) t spells = (
   IsExpressionWithin-spelled scope b (operand 2 t) spells.3,
 )
 
-IsReactionWithin-spelled : (scope : NameScope) (r : Reaction) (t : Located) → SpellsReaction scope r t → IsReactionWithin (length scope.symbols) (length scope.binders) r
+pub IsReactionWithin-spelled : (scope : NameScope) (r : Reaction) (t : Located) → SpellsReaction scope r t → IsReactionWithin (length scope.symbols) (length scope.binders) r
 IsReactionWithin-spelled scope (returning e) t spells = IsExpressionWithin-spelled scope e (operand 0 t) spells.1
 IsReactionWithin-spelled scope (flipping w) t spells = tt
 IsReactionWithin-spelled scope (reading c) t spells = tt

@@ -3,7 +3,8 @@ use Rattle.std.proofs.Common.{◌≤◌, refl, arith}
 use Rattle.std.proofs.lemmas.Fmt.{decimal_digit}
 use Rattle.ipdl_forms.specs.Items.{SpellsDocument}
 use Rattle.ipdl_forms.specs.Limits.{IsWithinLimits}
-use Rattle.ipdl_top.specs.Chains.{chain_text}
+use Rattle.ipdl_chain.specs.ChainTexts.{chain_text}
+use Rattle.ipdl_script.proofs.ScriptLaws.{chain_exactly}
 use Rattle.ipdl_top.specs.Scripts.{IsProvedDocument, HasShortChains}
 use Rattle.ipdl_top.specs.Examples.{worked_document, worked_tree}
 
@@ -40,21 +41,7 @@ pub IsWithinLimits-worked : IsWithinLimits worked_document
 IsWithinLimits-worked = (omega arith, (omega arith, (omega arith, ((omega arith, (tt, tt), tt), tt))))
 
 pub IsProvedDocument-worked : IsProvedDocument worked_document
-IsProvedDocument-worked = (
-  tt,
-  (
-    tt,
-    (
-      record {
-        script = refl;
-        matches = refl;
-        shallow = omega arith;
-        meets = refl;
-      },
-      tt,
-    ),
-  ),
-)
+IsProvedDocument-worked = (tt, (tt, ((chain_exactly _ 0 _ _).1 (refl, refl), tt)))
 
 -- the chain is of so many bytes
 pub HasShortChains-worked : HasShortChains worked_document

@@ -1,48 +1,75 @@
--- The chains of a document, and the text of them.
-use Rattle.std.specs.Prelude.{ℕ, suc, List, [], ◌∷◌, ◌++◌, codes, Option, Some, None}
-use Rattle.std.specs.Fmt.{decimal}
-use Rattle.ipdl_sig.specs.declared.symbol.Symbol.{Symbol}
-use Rattle.ipdl_term.specs.Terms.{Protocol}
-use Rattle.ipdl_tree.specs.Spelling.{tree_text}
+-- What the theorems of a document claim, their chains, and the text of all chains.
+use Rattle.std.specs.Prelude.{ℕ, suc, ◌+◌, List, [], ◌∷◌, ◌++◌, Option, Some, None}
+use Rattle.ipdl_chain.specs.Chains.{Chain, neighbour_count}
+use Rattle.ipdl_chain.specs.ChainTexts.{accepted_line, assumptions_in, chain_text}
 use Rattle.ipdl_forms.specs.Documents.{Document, Entry, symbol_entry, protocol_entry, assumption_entry, theorem_entry}
-use Rattle.ipdl_printing.specs.Printing.{protocol_tree}
-use Rattle.ipdl_printing.specs.Texts.{line, spaced}
-use Rattle.ipdl_top.specs.Ends.{exchanged}
+use Rattle.ipdl_script.specs.Scripts.{Theorem, chain_of_scripts}
+use Rattle.ipdl_script.specs.Steps.{Setting}
+use Rattle.ipdl_sig.specs.declared.symbol.Symbol.{Symbol}
+use Rattle.ipdl_term.specs.Steps.{Step}
+use Rattle.ipdl_typing.specs.Signatures.{signature_of}
 use Rattle.ipdl_top.specs.Lookups.{Network, network_named}
 
--- the line that begins a chain
-abbrev pub theorem_line : (theorem left right : List ℕ) → List ℕ
-theorem_line theorem left right = line (spaced (codes "theorem" ∷ theorem ∷ left ∷ right ∷ []))
+-- ---- claims
 
--- a term with its number
-abbrev pub term_line : List Symbol → (number : ℕ) → Protocol → List ℕ
-term_line symbols number term = line (spaced (decimal number ∷ tree_text (protocol_tree symbols term) ∷ []))
+-- what a theorem claims: its names, what its steps are checked against, and its two protocols with their scripts
+pub record Claim : Type 0 where
+  pub name : List ℕ
+  pub left : List ℕ
+  pub right : List ℕ
+  pub setting : Setting
+  pub theorem : Theorem
 
--- by what the second term comes from the first
-abbrev pub exchange_line : List ℕ
-exchange_line = line (codes "by rule lr comm ()")
+-- the claim of two protocols that are there, at the interface of the left one
+abbrev pub claim_between : List Symbol → (name left right : List ℕ) → (lefts rights : List Step) → (from to : Option Network) → Option Claim
+claim_between symbols name left right lefts rights (Some from) (Some to) =
+    Some (record {
+      name = name;
+      left = left;
+      right = right;
+      setting = record { sig = signature_of symbols; interface = from.interface };
+      theorem = record { left = from.body; right = to.body; lefts = lefts; rights = rights };
+    })
+claim_between symbols name left right lefts rights (Some from) None = None
+claim_between symbols name left right lefts rights None to = None
 
--- the count of neighbours, each of which is exact
-abbrev pub exact_line : List ℕ
-exact_line = line (codes "exact 1 assumed 0")
+-- the claim of an item, none of what is no theorem
+abbrev pub claim_of : List Symbol → List Entry → Entry → Option Claim
+claim_of symbols entries (theorem_entry name left right lefts rights) =
+    claim_between symbols name left right lefts rights (network_named entries left) (network_named entries right)
+claim_of symbols entries (symbol_entry n s) = None
+claim_of symbols entries (protocol_entry name interface body) = None
+claim_of symbols entries (assumption_entry name left right) = None
 
--- the chain of a theorem that begins at this protocol
-unfoldable pub chain_text : List Symbol → (theorem left right : List ℕ) → Protocol → List ℕ
-chain_text symbols theorem left right body =
-    theorem_line theorem left right ++ term_line symbols 0 body ++ exchange_line ++ term_line symbols 1 (exchanged body)
-    ++ exact_line
+-- ---- chains
 
--- the chain of a theorem between two protocols that are there
-abbrev pub chain_between : List Symbol → (theorem left right : List ℕ) → (from to : Option Network) → List ℕ
-chain_between symbols theorem left right (Some from) (Some to) = chain_text symbols theorem left right from.body
-chain_between symbols theorem left right (Some from) None = []
-chain_between symbols theorem left right None to = []
+-- the chain of its scripts
+abbrev pub claim_chain : Claim → Chain
+claim_chain claim = chain_of_scripts claim.setting claim.theorem
 
--- the chain of an item, none of what is no theorem
+-- how many neighbours the chain has, none where there is no claim
+abbrev pub claim_neighbours : Option Claim → ℕ
+claim_neighbours None = 0
+claim_neighbours (Some claim) = neighbour_count (claim_chain claim).links
+
+abbrev pub item_neighbours : List Symbol → List Entry → Entry → ℕ
+item_neighbours symbols entries item = claim_neighbours (claim_of symbols entries item)
+
+abbrev pub items_neighbours : List Symbol → List Entry → List Entry → ℕ
+items_neighbours symbols entries [] = 0
+items_neighbours symbols entries (item ∷ items) =
+    item_neighbours symbols entries item + items_neighbours symbols entries items
+
+-- ---- texts
+
+-- the text of the chain, the names of the assumptions being those of the document; none where there is no claim
+abbrev pub claim_text : List Symbol → (assumptions : List (List ℕ)) → Option Claim → List ℕ
+claim_text symbols assumptions None = []
+claim_text symbols assumptions (Some claim) =
+    chain_text symbols assumptions claim.name claim.left claim.right (claim_chain claim)
+
 abbrev pub item_text : List Symbol → List Entry → Entry → List ℕ
-item_text symbols entries (theorem_entry name left right lefts rights) =
-    chain_between symbols name left right (network_named entries left) (network_named entries right)
-item_text symbols entries _ = []
+item_text symbols entries item = claim_text symbols (assumptions_in entries) (claim_of symbols entries item)
 
 abbrev pub items_text : List Symbol → List Entry → List Entry → List ℕ
 items_text symbols entries [] = []
@@ -55,15 +82,11 @@ theorem_count (protocol_entry name interface body ∷ entries) = theorem_count e
 theorem_count (assumption_entry name left right ∷ entries) = theorem_count entries
 theorem_count (theorem_entry name left right lefts rights ∷ entries) = suc (theorem_count entries)
 
--- the last line, with the number of theorems and that of neighbours
-abbrev pub accepted_line : (theorems neighbours : ℕ) → List ℕ
-accepted_line theorems neighbours =
-    line (spaced (codes "accepted theorems" ∷ decimal theorems ∷ codes "neighbours" ∷ decimal neighbours ∷ []))
-
 -- all chains in order
 abbrev pub chains_text : Document → List ℕ
 chains_text d = items_text d.symbols d.entries d.entries
 
--- all chains, and the last line: each theorem has one neighbour
+-- all chains, and the last line
 unfoldable pub proved_text : Document → List ℕ
-proved_text d = chains_text d ++ accepted_line (theorem_count d.entries) (theorem_count d.entries)
+proved_text d =
+    chains_text d ++ accepted_line (theorem_count d.entries) (items_neighbours d.symbols d.entries d.entries)

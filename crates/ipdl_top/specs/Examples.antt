@@ -27,10 +27,6 @@ worked_body = parallel (bit_assignment (codes "b") true) (bit_assignment (codes 
 abbrev pub first_body : Protocol
 first_body = parallel (bit_assignment (codes "a") false) (bit_assignment (codes "b") true)
 
--- the same as the worked body with another first literal
-abbrev pub other_body : Protocol
-other_body = parallel (bit_assignment (codes "b") false) (bit_assignment (codes "a") false)
-
 abbrev pub worked_document : Document
 worked_document = record {
   version = 1;

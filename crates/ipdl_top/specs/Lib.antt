@@ -4,13 +4,13 @@ pub mod Statuses
 pub mod Lines
 pub mod Refusals
 pub mod Told
-pub mod Ends
-pub mod Differences
 pub mod Lookups
 pub mod Typed
 pub mod Summaries
 pub mod Chains
 pub mod Scripts
+pub mod Books
+pub mod Meanings
 pub mod Requests
 pub mod Checking
 pub mod Telling

@@ -9,6 +9,8 @@ use Rattle.ipdl_typing.specs.Checks.{Cause, width, unbound, no_symbol, unwritten
 use Rattle.ipdl_forms.specs.declared.fault.FormCause.{FormCause}
 use Rattle.ipdl_forms.specs.declared.fault.FormCause.TheVariants.{NotAForm, UnknownName, Repeated, WrongWidth, TableLength}
 use Rattle.ipdl_printing.specs.Texts.{line, spaced, place_text}
+use Rattle.ipdl_script.specs.Scripts.{Side, left_side, right_side}
+use Rattle.ipdl_script.specs.Steps as S
 
 -- ---- the words of causes
 
@@ -48,6 +50,20 @@ cause_text (new_unwritten c) = spaced (codes "NewUnwritten" ∷ c ∷ [])
 cause_text (missing c) = spaced (codes "Missing" ∷ c ∷ [])
 cause_text (interface c) = spaced (codes "Interface" ∷ c ∷ [])
 
+abbrev pub side_name : Side → List ℕ
+side_name left_side = codes "left"
+side_name right_side = codes "right"
+
+-- why a step is refused. A limit has a line of its own
+abbrev pub step_cause_text : S.Refusal → List ℕ
+step_cause_text S.no_place = codes "NoPlace"
+step_cause_text (S.no_variable n) = spaced (codes "NoVariable" ∷ decimal n ∷ [])
+step_cause_text S.no_match = codes "NoMatch"
+step_cause_text (S.side_fails n) = spaced (codes "Side" ∷ decimal n ∷ [])
+step_cause_text S.not_result = codes "NotResult"
+step_cause_text (S.ill_typed f) = spaced (codes "IllTyped" ∷ place_text f.path ∷ cause_text f.cause ∷ [])
+step_cause_text (S.over limit) = []
+
 -- ---- where a limit is passed
 
 abbrev pub at_byte : (offset : ℕ) → List (List ℕ)
@@ -60,8 +76,8 @@ abbrev pub at_theorem : (theorem : List ℕ) → List (List ℕ)
 at_theorem theorem = codes "theorem" ∷ theorem ∷ []
 
 -- at a step of a side of a theorem, the first one having the number 1
-abbrev pub at_step : (theorem : List ℕ) → (side : List ℕ) → (number : ℕ) → List (List ℕ)
-at_step theorem side number = codes "theorem" ∷ theorem ∷ side ∷ decimal number ∷ []
+abbrev pub at_step : (theorem : List ℕ) → Side → (number : ℕ) → List (List ℕ)
+at_step theorem side number = codes "theorem" ∷ theorem ∷ side_name side ∷ decimal number ∷ []
 
 -- ---- lines
 
@@ -82,10 +98,10 @@ limit_line limit number at_what =
 abbrev pub ill_line : (item : List ℕ) → Failure → List ℕ
 ill_line item f = line (spaced (codes "ill" ∷ item ∷ place_text f.path ∷ cause_text f.cause ∷ []))
 
--- a step of a theorem where the rule does not apply
-abbrev pub wrong_step_line : (theorem : List ℕ) → (side : List ℕ) → (number : ℕ) → (rule cause : List ℕ) → List ℕ
+-- a step of a theorem that is wrong
+abbrev pub wrong_step_line : (theorem : List ℕ) → Side → (number : ℕ) → (rule cause : List ℕ) → List ℕ
 wrong_step_line theorem side number rule cause =
-    line (spaced (codes "wrong" ∷ theorem ∷ side ∷ decimal number ∷ rule ∷ cause ∷ []))
+    line (spaced (codes "wrong" ∷ theorem ∷ side_name side ∷ decimal number ∷ rule ∷ cause ∷ []))
 
 -- a theorem whose two ends differ first at a place
 abbrev pub ends_line : (theorem : List ℕ) → (place : List ℕ) → List ℕ

@@ -9,7 +9,9 @@ use Rattle.ipdl_tree.specs.declared.fault.SpellCause.{SpellCause}
 use Rattle.ipdl_typing.specs.Checks.{Failure}
 use Rattle.ipdl_forms.specs.Documents.{Entry}
 use Rattle.ipdl_forms.specs.declared.fault.FormCause.{FormCause}
-use Rattle.ipdl_top.specs.Lines.{spell_cause_name, form_cause_name, at_byte, at_item, at_theorem, at_step, spell_line, form_line, limit_line, ill_line, wrong_step_line, ends_line}
+use Rattle.ipdl_script.specs.Scripts.{Side}
+use Rattle.ipdl_script.specs.Steps as S
+use Rattle.ipdl_top.specs.Lines.{spell_cause_name, form_cause_name, at_byte, at_item, at_theorem, at_step, spell_line, form_line, limit_line, ill_line, step_cause_text, wrong_step_line, ends_line}
 use Rattle.ipdl_top.specs.Statuses.{wrong, bad, over, Refusal, refusal_of}
 
 -- ---- of a source
@@ -41,18 +43,29 @@ too_deep item = refusal_of over (limit_line Depth greatest_printed_depth (at_ite
 
 -- ---- of a theorem
 
--- its script, which stands at an offset, has a form that is not built
+-- its scripts, which stand at an offset, have a step that is not built
 abbrev pub not_built : (offset : ℕ) → Refusal
 not_built offset = refusal_of bad (form_line offset (codes "NotBuilt"))
 
--- the step does not match
-abbrev pub no_match : (theorem side : List ℕ) → (number : ℕ) → (rule : List ℕ) → Refusal
-no_match theorem side number rule = refusal_of wrong (wrong_step_line theorem side number rule (codes "NoMatch"))
+-- the greatest count of what a step gives
+abbrev pub greatest_in_step : Limit → ℕ
+greatest_in_step Depth = greatest_printed_depth
+greatest_in_step limit = limit_number limit
 
--- what the step gives is printed deeper than is allowed
-abbrev pub step_too_deep : (theorem side : List ℕ) → (number : ℕ) → Refusal
-step_too_deep theorem side number =
-    refusal_of over (limit_line Depth greatest_printed_depth (at_step theorem side number))
+-- with the step a count passes its limit
+abbrev pub over_at_step : Limit → (theorem : List ℕ) → Side → (number : ℕ) → Refusal
+over_at_step limit theorem side number =
+    refusal_of over (limit_line limit (greatest_in_step limit) (at_step theorem side number))
+
+-- the step, whose rule is told so, is wrong
+abbrev pub wrong_step : (theorem : List ℕ) → Side → (number : ℕ) → (rule : List ℕ) → S.Refusal → Refusal
+wrong_step theorem side number rule cause =
+    refusal_of wrong (wrong_step_line theorem side number rule (step_cause_text cause))
+
+-- the step is refused, by a limit or as wrong
+abbrev pub step_refused : (theorem : List ℕ) → Side → (number : ℕ) → (rule : List ℕ) → S.Refusal → Refusal
+step_refused theorem side number rule (S.over limit) = over_at_step limit theorem side number
+step_refused theorem side number rule cause = wrong_step theorem side number rule cause
 
 -- its two ends differ first at a place
 abbrev pub ends_differ : (theorem place : List ℕ) → Refusal

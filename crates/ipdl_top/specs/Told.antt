@@ -1,5 +1,5 @@
 -- What the program's own types stand for: requests, refusals, and why a call stopped.
-use Rattle.std.specs.Prelude.{◌≡◌, ℕ, List, codes, Option, Some, None, Result, Ok, Err}
+use Rattle.std.specs.Prelude.{◌≡◌, ℕ, List, string_bytes, Option, Some, None, Result, Ok, Err}
 use Rattle.std.specs.Global.{Vec}
 use Rattle.ipdl_base.specs.Limits.{limit_number}
 use Rattle.ipdl_base.specs.declared.limit.Limit.TheVariants.{Depth}
@@ -9,14 +9,13 @@ use Rattle.ipdl_typing.specs.Answers.{failure_of}
 use Rattle.ipdl_forms.specs.declared.fault.DocFault.{DocFault}
 use Rattle.ipdl_forms.specs.declared.fault.DocFault.TheVariants as F
 use Rattle.ipdl_top.specs.Lines.{at_byte, at_item, at_theorem, at_step, limit_line}
-use Rattle.ipdl_top.specs.Refusals.{unspelled, misformed, ill, not_built, no_match, ends_differ}
+use Rattle.ipdl_script.specs.Views.{side_of, refusal_of as cause_told}
+use Rattle.ipdl_top.specs.Refusals.{unspelled, misformed, ill, not_built, wrong_step, ends_differ}
 use Rattle.ipdl_top.specs.Requests.{Request, check, types}
 use Rattle.ipdl_top.specs.Statuses.{over, Refusal, refusal_of, Reply, reply_of}
 use Rattle.ipdl_top.specs.declared.answering.Answer.{Answer}
 use Rattle.ipdl_top.specs.declared.refusal.Refusal.{Refusal as Held}
 use Rattle.ipdl_top.specs.declared.refusal.Refusal.TheVariants as R
-use Rattle.ipdl_top.specs.declared.refusal.Side.{Side}
-use Rattle.ipdl_top.specs.declared.refusal.Side.TheVariants.{Left, Right}
 use Rattle.ipdl_top.specs.declared.refusal.Stop.{Stop}
 use Rattle.ipdl_top.specs.declared.refusal.Stop.TheVariants.{Refused, Memory}
 use Rattle.ipdl_top.specs.declared.refusal.Where.{Where}
@@ -30,15 +29,11 @@ request_of A.Types = types
 
 -- ---- refusals
 
-abbrev pub side_name : Side → List ℕ
-side_name Left = codes "left"
-side_name Right = codes "right"
-
 abbrev pub where_words : Where → List (List ℕ)
 where_words (Byte pos) = at_byte pos.0
 where_words (Item name) = at_item name
 where_words (Theorem name) = at_theorem name
-where_words (Step theorem side number) = at_step theorem (side_name side) number
+where_words (Step theorem side number) = at_step theorem (side_of side) number
 
 abbrev pub told : Held → Refusal
 told (R.Spell pos cause) = unspelled pos.0 cause
@@ -46,7 +41,8 @@ told (R.Form pos cause) = misformed pos.0 cause
 told (R.NotBuilt pos) = not_built pos.0
 told (R.Limit limit number at) = refusal_of over (limit_line limit number (where_words at))
 told (R.Ill item found) = ill item (failure_of found)
-told (R.NoMatch theorem side number) = no_match theorem (side_name side) number (codes "comm")
+told (R.WrongStep theorem side number rule cause) =
+    wrong_step theorem (side_of side) number (string_bytes rule) (cause_told cause)
 told (R.Ends theorem place) = ends_differ theorem place
 
 -- the reply that the program's answer stands for

@@ -29,6 +29,7 @@ use std::alloc::Global;
 // The answer to `check`, of a document whose items are well typed.
 fn answer_to_check(alloc: Global, tree: &Tree, document: &Document) -> Result<Vec<u8>, Stop>
     requires spelled { SpellsDocument (document_of document.now) (located tree.now) }
+    requires within { IsWithinLimits (document_of document.now) }
     requires typed { IsTypedDocument (document_of document.now) }
     ensures { Settles result (IsCheckRefusal (document_of document.now) (located tree.now)) (IsCheckAnswer (document_of document.now)) }
 {

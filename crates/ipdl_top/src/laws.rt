@@ -1,20 +1,21 @@
 //! Laws about the definitions: each function does nothing, and its contract is the law.
 
 ghost use Rattle.std.specs.Prelude.{◌≡◌, ◌↔◌, ℕ, List, Option, None, Some, [], ◌∷◌, codes, slice_get};
-ghost use Rattle.ipdl_term.specs.Terms.{Protocol, protocol_term};
+ghost use Rattle.ipdl_script.specs.Scripts.{right_side};
+ghost use Rattle.ipdl_script.specs.Steps.{no_variable};
 ghost use Rattle.ipdl_tree.specs.Spelling.{tree_text};
 ghost use Rattle.ipdl_tree.specs.Trees.{Located};
 ghost use Rattle.ipdl_forms.specs.Documents.{Document, Entry};
 ghost use Rattle.ipdl_forms.specs.Items.{SpellsDocument};
 ghost use Rattle.ipdl_forms.specs.Limits.{IsWithinLimits};
 ghost use Rattle.ipdl_top.specs.Chains.{proved_text};
-ghost use Rattle.ipdl_top.specs.Differences.{DifferFirstAt};
-ghost use Rattle.ipdl_top.specs.Ends.{differing_place};
-ghost use Rattle.ipdl_top.specs.Examples.{worked_document, worked_body, other_body, worked_tree};
+ghost use Rattle.ipdl_top.specs.Examples.{worked_document, worked_tree};
 ghost use Rattle.ipdl_top.specs.Lines.{ends_line};
-ghost use Rattle.ipdl_top.specs.Refusals.{IsFirstRefused};
+ghost use Rattle.ipdl_top.specs.Meanings.{IsTrueItem};
+ghost use Rattle.ipdl_top.specs.Refusals.{IsFirstRefused, wrong_step};
 ghost use Rattle.ipdl_top.specs.Replies.{IsReply};
-ghost use Rattle.ipdl_top.specs.Requests.{Request, request_words, request_in};
+ghost use Rattle.ipdl_top.specs.Requests.{Request, check, request_words, request_in};
+ghost use Rattle.ipdl_top.specs.Runs.{IsAnswered};
 ghost use Rattle.ipdl_top.specs.Scripts.{judged_by_script, script_refusal, IsProvedDocument, HasShortChains};
 ghost use Rattle.ipdl_top.specs.Statuses.{Refusal, Reply};
 ghost use Rattle.ipdl_top.specs.Summaries.{summary_text};
@@ -46,12 +47,11 @@ pub fn the_first_theorem_is_refused()
     ensures none { (d : Document) (t : Located) → (script_refusal d t ≡ None) ↔ ((index : ℕ) (item : Entry) → slice_get d.entries index ≡ Some item → judged_by_script d t index item ≡ None) }
 {}
 
-/// Two protocols differ nowhere exactly where they are one. Else the place that is told is the one
-/// where both have a part, these differ in head, name or number, and at no place before it in
-/// preorder they do.
-pub fn protocols_differ_somewhere_or_are_one()
-    ensures nowhere { (p q : Protocol) → (differing_place p q ≡ None) ↔ (p ≡ q) }
-    ensures first { (p q : Protocol) (place : List ℕ) → (differing_place p q ≡ Some place) ↔ DifferFirstAt (protocol_term p) (protocol_term q) place }
+/// In a document whose theorems are accepted, each two neighbours of the chain of a theorem are equal
+/// at the interface of its left protocol, and so are its two protocols.
+pub fn chains_mean()
+    ensures { (bytes : List ℕ) (t : Located) (d : Document) (text : List ℕ) → IsAnswered check bytes t d text →
+        (index : ℕ) (item : Entry) → slice_get d.entries index ≡ Some item → IsTrueItem d.symbols d.entries item }
 {}
 
 /// The worked example, computed from the definitions.
@@ -64,6 +64,6 @@ pub fn worked_example()
     ensures short { HasShortChains worked_document }
     ensures printed { proved_text worked_document ≡ codes "theorem t A B\n0 (par (out a (ret #0)) (out b (ret #1)))\nby rule lr comm ()\n1 (par (out b (ret #1)) (out a (ret #0)))\nexact 1 assumed 0\naccepted theorems 1 neighbours 1\n" }
     ensures summed { summary_text worked_document ≡ codes "protocol A inputs 0 outputs 2 channels 2 nodes 7 coins 0\nprotocol B inputs 0 outputs 2 channels 2 nodes 7 coins 0\ntheorem t A B steps 1\ntyped items 3\n" }
-    ensures differs { differing_place worked_body other_body ≡ Some (0 ∷ 0 ∷ 0 ∷ []) }
+    ensures wrong { (wrong_step (codes "t") right_side 2 (codes "rev unit") (no_variable 0)).text ≡ codes "wrong t right 2 rev unit NoVariable 0\n" }
     ensures refused { ends_line (codes "t") (0 ∷ 0 ∷ 0 ∷ []) ≡ codes "wrong t ends (0 0 0)\n" }
 {}

@@ -3,7 +3,6 @@
 #![tactic(auto)]
 
 mod answering;
-mod comparing;
 mod laws;
 mod refusal;
 mod refusing;
@@ -16,10 +15,10 @@ mod summaries;
 mod tests;
 mod transfer;
 mod typing;
-mod writing;
+mod wrong;
 
 pub use laws::{
-    protocols_differ_somewhere_or_are_one, the_first_item_is_refused, the_first_theorem_is_refused,
+    chains_mean, the_first_item_is_refused, the_first_theorem_is_refused,
     words_and_bytes_have_one_reply, words_are_of_one_request, worked_example,
 };
 pub use runner::run;

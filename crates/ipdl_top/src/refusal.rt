@@ -1,30 +1,25 @@
 //! Why a source, or what is asked of it, is refused, and why a call stopped.
 
-ghost use Rattle.std.specs.Prelude.{◌≡◌, List, Some, option_map, codes};
+ghost use Rattle.std.specs.Prelude.{◌≡◌, List, Some, option_map};
+ghost use Rattle.ipdl_script.specs.Views.{side_of};
 ghost use Rattle.ipdl_typing.specs.Answers.{TellsFirstFailure};
 ghost use Rattle.ipdl_typing.specs.Checks.{Failure, first_failure};
 ghost use Rattle.ipdl_top.specs.Lines.{at_item, at_theorem, limit_line};
-ghost use Rattle.ipdl_top.specs.Refusals.{ill, no_match, step_too_deep, ends_differ};
+ghost use Rattle.ipdl_top.specs.Refusals.{ill, greatest_in_step, over_at_step, ends_differ};
 ghost use Rattle.ipdl_top.specs.Statuses.{over, refusal_of, kind_status};
-ghost use Rattle.ipdl_top.specs.Told.{side_name, told, tree_stop, document_stop, IsStop};
+ghost use Rattle.ipdl_top.specs.Told.{told, tree_stop, document_stop, IsStop};
 ghost use Rattle.ipdl_top.specs.declared.refusal.Stop.TheVariants.{Memory};
 
 use crate::status::Status;
-use ipdl_base::{Limit, List, Name, NoMemory, Pos};
+use ipdl_base::{Limit, Name, NoMemory, Path, Pos};
 use ipdl_forms::{DocFault, FormCause};
+use ipdl_script::{Cause, Side};
 use ipdl_tree::{SpellCause, TreeFault};
 use ipdl_typing::{Ill, TypeFault};
 use std::alloc::Global;
 
 // The greatest depth of a protocol in print.
 pub(crate) const GREATEST_DEPTH: u64 = 190;
-
-// A side of a theorem.
-#[derive(Clone, Copy)]
-pub(crate) enum Side {
-    Left,
-    Right,
-}
 
 // Where a limit is passed. The first step of a side has the number 1.
 #[derive(Drop)]
@@ -42,16 +37,16 @@ pub(crate) enum Refusal {
     Spell(Pos, SpellCause),
     // The tree is not of the form that is asked.
     Form(Pos, FormCause),
-    // The theorem has a script of a form that is not built.
+    // The theorem has a step that is not built.
     NotBuilt(Pos),
     // A count passes this number.
     Limit(Limit, u64, Where),
     // The item is ill typed.
     Ill(Name, Ill),
-    // The step of the theorem does not match.
-    NoMatch(Name, Side, u32),
+    // The step of the theorem, whose rule is told so, is wrong.
+    WrongStep(Name, Side, u32, String, Cause),
     // The two ends of the theorem differ first at this place.
-    Ends(Name, List<u32>),
+    Ends(Name, Path),
 }
 
 impl Refusal {
@@ -65,7 +60,7 @@ impl Refusal {
             | Refusal::NotBuilt(_)
             | Refusal::Ill(_, _) => Status::BadSource,
             Refusal::Limit(_, _, _) => Status::OverLimit,
-            Refusal::NoMatch(_, _, _) | Refusal::Ends(_, _) => Status::WrongStep,
+            Refusal::WrongStep(_, _, _, _, _) | Refusal::Ends(_, _) => Status::WrongStep,
         }
     }
 }
@@ -113,6 +108,16 @@ pub(crate) fn document_stop(fault: DocFault) -> Stop
     }
 }
 
+// The greatest count of what a step gives.
+fn greatest_in_step(limit: Limit) -> u64
+    ensures { result ≡ greatest_in_step limit }
+{
+    match limit {
+        Limit::Depth => GREATEST_DEPTH,
+        _ => limit.number(),
+    }
+}
+
 // ---- with the name of what is refused
 
 // The item passes this number.
@@ -135,32 +140,28 @@ pub(crate) fn over_at_theorem(alloc: Global, limit: Limit, number: u64, theorem:
     }
 }
 
-// What the step gives is printed too deep.
-pub(crate) fn step_too_deep(alloc: Global, theorem: &Name, side: Side, number: u32) -> Stop
-    ensures { IsStop result (Some (step_too_deep theorem.now (side_name side) number)) }
+// With the step a count passes its limit.
+pub(crate) fn over_at_step(
+    alloc: Global,
+    limit: Limit,
+    theorem: &Name,
+    side: Side,
+    number: u32,
+) -> Stop
+    ensures { IsStop result (Some (over_at_step limit theorem.now (side_of side) number)) }
 {
     match theorem.copy(alloc) {
         Ok(theorem) => Stop::Refused(Refusal::Limit(
-            Limit::Depth,
-            GREATEST_DEPTH,
+            limit,
+            greatest_in_step(limit),
             Where::Step(theorem, side, number),
         )),
         Err(NoMemory) => Stop::Memory,
     }
 }
 
-// The step does not match.
-pub(crate) fn no_match(alloc: Global, theorem: &Name, side: Side, number: u32) -> Stop
-    ensures { IsStop result (Some (no_match theorem.now (side_name side) number (codes "comm"))) }
-{
-    match theorem.copy(alloc) {
-        Ok(theorem) => Stop::Refused(Refusal::NoMatch(theorem, side, number)),
-        Err(NoMemory) => Stop::Memory,
-    }
-}
-
 // The ends differ first at this place.
-pub(crate) fn ends_differ(alloc: Global, theorem: &Name, place: List<u32>) -> Stop
+pub(crate) fn ends_differ(alloc: Global, theorem: &Name, place: Path) -> Stop
     ensures { IsStop result (Some (ends_differ theorem.now place)) }
 {
     match theorem.copy(alloc) {

@@ -1,15 +1,17 @@
 //! The lines that say where and why something is refused.
 
-ghost use Rattle.std.specs.Prelude.{◌≡◌, ◌++◌, IfOk, OnOk, string_bytes, codes};
+ghost use Rattle.std.specs.Prelude.{◌≡◌, ◌++◌, IfOk, OnOk, string_bytes, [], ◌∷◌};
 ghost use Rattle.ipdl_typing.specs.Answers.{cause_of, failure_of};
-ghost use Rattle.ipdl_top.specs.Lines.{spell_cause_name, form_cause_name, limit_name, cause_text, spell_line, form_line, limit_line, ill_line, wrong_step_line, ends_line};
-ghost use Rattle.ipdl_top.specs.Told.{side_name, where_words, told};
-ghost use Rattle.ipdl_printing.specs.Texts.{spaced};
+ghost use Rattle.ipdl_top.specs.Lines.{spell_cause_name, form_cause_name, limit_name, side_name, cause_text, step_cause_text, spell_line, form_line, limit_line, ill_line, wrong_step_line, ends_line};
+ghost use Rattle.ipdl_top.specs.Told.{where_words, told};
+ghost use Rattle.ipdl_printing.specs.Texts.{place_text, spaced};
+ghost use Rattle.ipdl_script.specs.Views.{side_of, refusal_of};
 
-use crate::refusal::{Refusal, Side, Where};
+use crate::refusal::{Refusal, Where};
 use ipdl_base::{Limit, Name, NoMemory, Pos};
 use ipdl_forms::FormCause;
 use ipdl_printing::push_place;
+use ipdl_script::{Cause, Side};
 use ipdl_tree::SpellCause;
 use ipdl_typing::{Ill, IllCause};
 use std::alloc::Global;
@@ -57,7 +59,7 @@ fn limit_name(limit: Limit) -> &'static str
 }
 
 fn side_name(side: Side) -> &'static str
-    ensures { result.now ≡ side_name side }
+    ensures { result.now ≡ side_name (side_of side) }
 {
     match side {
         Side::Left => "left",
@@ -78,6 +80,33 @@ fn push_cause(text: &mut String, cause: &IllCause) -> Result<(), NoMemory>
         IllCause::NewUnwritten { name } => write!(text, "NewUnwritten {}", name.text())?,
         IllCause::Missing { name } => write!(text, "Missing {}", name.text())?,
         IllCause::Interface { name } => write!(text, "Interface {}", name.text())?,
+    }
+    Ok(())
+}
+
+// A place with what is wrong there.
+fn push_ill(text: &mut String, ill: &Ill) -> Result<(), NoMemory>
+    ensures { OnOk result (string_bytes text.new ≡ string_bytes text.old ++ spaced (place_text (failure_of ill.now).path ∷ cause_text (failure_of ill.now).cause ∷ [])) }
+{
+    push_place(text, ill.path.parts())?;
+    text.push_str(" ")?;
+    push_cause(text, &ill.cause)
+}
+
+// Why a step is wrong.
+fn push_step_cause(text: &mut String, cause: &Cause) -> Result<(), NoMemory>
+    ensures { OnOk result (string_bytes text.new ≡ string_bytes text.old ++ step_cause_text (refusal_of cause.now)) }
+{
+    match cause {
+        Cause::NoPlace => text.push_str("NoPlace")?,
+        Cause::NoVariable { number } => write!(text, "NoVariable {number}")?,
+        Cause::NoMatch => text.push_str("NoMatch")?,
+        Cause::Side(number) => write!(text, "Side {number}")?,
+        Cause::NotResult => text.push_str("NotResult")?,
+        Cause::IllTyped(ill) => {
+            text.push_str("IllTyped ")?;
+            push_ill(text, ill)?
+        }
     }
     Ok(())
 }
@@ -138,20 +167,27 @@ fn ill_text(alloc: Global, item: &Name, ill: &Ill) -> Result<String, NoMemory>
 {
     let mut text = String::new(alloc);
     write!(text, "ill {} ", item.text())?;
-    push_place(&mut text, ill.path.parts())?;
-    text.push_str(" ")?;
-    push_cause(&mut text, &ill.cause)?;
+    push_ill(&mut text, ill)?;
     text.push_str("\n")?;
     Ok(text)
 }
 
-fn no_match_text(alloc: Global, theorem: &Name, side: Side, number: u32) -> Result<String, NoMemory>
-    ensures { IfOk result (λ text. string_bytes text ≡ wrong_step_line theorem.now (side_name side) number (codes "comm") (codes "NoMatch")) }
+fn wrong_step_text(
+    alloc: Global,
+    theorem: &Name,
+    side: Side,
+    number: u32,
+    rule: &str,
+    cause: &Cause,
+) -> Result<String, NoMemory>
+    ensures { IfOk result (λ text. string_bytes text ≡ wrong_step_line theorem.now (side_of side) number rule.now (step_cause_text (refusal_of cause.now))) }
 {
     let mut text = String::new(alloc);
     let theorem = theorem.text();
     let side = side_name(side);
-    writeln!(text, "wrong {theorem} {side} {number} comm NoMatch")?;
+    write!(text, "wrong {theorem} {side} {number} {rule} ")?;
+    push_step_cause(&mut text, cause)?;
+    text.push_str("\n")?;
     Ok(text)
 }
 
@@ -175,7 +211,9 @@ pub(crate) fn refusal_text(alloc: Global, refusal: &Refusal) -> Result<String, N
         Refusal::NotBuilt(pos) => form_text(alloc, *pos, "NotBuilt"),
         Refusal::Limit(limit, number, at) => limit_text(alloc, *limit, *number, at),
         Refusal::Ill(item, ill) => ill_text(alloc, item, ill),
-        Refusal::NoMatch(theorem, side, number) => no_match_text(alloc, theorem, *side, *number),
-        Refusal::Ends(theorem, place) => ends_text(alloc, theorem, place.as_slice()),
+        Refusal::WrongStep(theorem, side, number, rule, cause) => {
+            wrong_step_text(alloc, theorem, *side, *number, rule.as_str(), cause)
+        }
+        Refusal::Ends(theorem, place) => ends_text(alloc, theorem, place.parts()),
     }
 }

@@ -1,61 +1,61 @@
-//! Theorems with the one form of scripts that is followed: the exchange of the two parts of the
-//! whole left protocol.
+//! Theorems by their scripts: which ones are built, and the chains of those that are proved.
 
-ghost use Rattle.std.specs.Prelude.{◌≡◌, ◌++◌, IfOk, OnOk, map, length, nat_lt};
-ghost use Rattle.ipdl_term.specs.Sizes.{printed_depth, greatest_printed_depth};
-ghost use Rattle.ipdl_term.specs.Steps.{step_of};
-ghost use Rattle.ipdl_term.specs.Terms.{parallel};
-ghost use Rattle.ipdl_term.specs.Views.{protocol_of};
+ghost use Rattle.std.specs.Prelude.{◌≡◌, ◌+◌, ◌≤◌, ◌++◌, ◌&&◌, IfOk, OnOk, map, length};
+ghost use Rattle.ipdl_base.specs.Limits.{limit_number};
+ghost use Rattle.ipdl_chain.specs.ChainTexts.{assumptions_in};
+ghost use Rattle.ipdl_script.specs.Ready.{IsReady, neighbours_in};
+ghost use Rattle.ipdl_term.specs.Steps.{rule_of, step_of};
 ghost use Rattle.ipdl_tree.specs.Trees.{offset_of};
 ghost use Rattle.ipdl_tree.specs.Views.{located, all_located};
 ghost use Rattle.ipdl_forms.specs.Documents.{entry_of, document_of};
+ghost use Rattle.ipdl_forms.specs.Items.{SpellsDocument};
+ghost use Rattle.ipdl_forms.specs.Limits.{IsWithinLimits};
 ghost use Rattle.ipdl_forms.specs.Lists.{tree_at};
-ghost use Rattle.ipdl_term.specs.Within.{IsProtocolWithin};
-ghost use Rattle.ipdl_top.specs.Chains.{chain_text, chain_between, item_text, proved_text};
-ghost use Rattle.ipdl_top.specs.Lookups.{network_named, HasBodiesWithin};
-ghost use Rattle.ipdl_top.specs.Scripts.{is_exchange, is_one_exchange, is_exchange_script, item_offset, body_refusal, exchange_refusal, theorem_refusal, script_refusal};
+ghost use Rattle.ipdl_top.specs.Chains.{claim_neighbours, claim_text, item_neighbours, item_text, theorem_count, proved_text};
+ghost use Rattle.ipdl_top.specs.Books.{held_claim, IsReadyItem};
+ghost use Rattle.ipdl_top.specs.Scripts.{is_built_rule, is_built_step, are_built_steps, claim_refusal, theorem_refusal, item_offset, script_refusal};
 ghost use Rattle.ipdl_top.specs.Told.{Tests};
+ghost use Rattle.ipdl_top.specs.Typed.{IsTypedDocument};
 
-use crate::comparing::exchanged_differs_at;
-use crate::refusal::{
-    GREATEST_DEPTH, Refusal, Side, Stop, ends_differ, no_match, over_at_theorem, step_too_deep,
-};
-use crate::writing::{push_accepted_line, push_chain};
+use crate::refusal::{Refusal, Stop, over_at_theorem};
+use crate::wrong::script_stop;
 use ipdl_base::{Limit, Pos};
+use ipdl_chain::{push_accepted_line, push_chain};
 use ipdl_forms::{Document, Item, TheoremItem};
-use ipdl_sig::Sig;
-use ipdl_term::{Proto, Rule, Step, depth};
+use ipdl_script::{Book, check_theorem};
+use ipdl_term::{Rule, Step};
 use ipdl_tree::{Node, Tree};
 use std::alloc::Global;
 
-// ---- the form of scripts
+// ---- what is built
 
-// Whether the step is `(comm ())`.
-fn is_exchange(step: &Step) -> bool
-    ensures { result ≡ is_exchange (step_of step.now) }
+fn is_built_rule(rule: &Rule) -> bool
+    ensures { result ≡ is_built_rule (rule_of rule.now) }
+{
+    match rule {
+        Rule::Comm | Rule::Assocl | Rule::Assocr | Rule::Unit | Rule::Newswap | Rule::Scope => true,
+        _ => false,
+    }
+}
+
+fn is_built_step(step: &Step) -> bool
+    ensures { result ≡ is_built_step (step_of step.now) }
 {
     match step {
-        Step::Plain {
-            path,
-            rule: Rule::Comm,
-        } => path.parts().is_empty(),
-        _ => false,
+        Step::Plain { rule, .. } | Step::Rev { rule, .. } => is_built_rule(rule),
+        Step::Invoke { .. } => false,
     }
 }
 
-fn is_one_exchange(steps: &[Step]) -> bool
-    ensures { result ≡ is_one_exchange (map step_of steps.now) }
+fn are_built_steps(steps: &[Step]) -> bool
+    ensures { result ≡ are_built_steps (map step_of steps.now) }
 {
-    match steps {
-        [step] => is_exchange(step),
-        _ => false,
+    for step in steps {
+        if !is_built_step(step) {
+            return false;
+        }
     }
-}
-
-fn is_exchange_script(theorem: &TheoremItem) -> bool
-    ensures { result ≡ is_exchange_script (map step_of theorem.now.left_steps) (map step_of theorem.now.right_steps) }
-{
-    is_one_exchange(theorem.left_steps.as_slice()) && theorem.right_steps.as_slice().is_empty()
+    true
 }
 
 // ---- offsets
@@ -85,101 +85,101 @@ fn item_offset(tree: &Tree, index: usize) -> Pos
 
 // ---- theorems
 
-// Whether the `par` of the two parts is too deep in print, where it goes on along a second part
-// that is a `par`.
-fn is_deep_par(first: &Proto, second: &Proto) -> bool
-    ensures { result ≡ nat_lt greatest_printed_depth (printed_depth (parallel (protocol_of first.now) (protocol_of second.now))) }
-{
-    let greatest = match second {
-        Proto::Par(_, _) => GREATEST_DEPTH,
-        _ => GREATEST_DEPTH - 1,
-    };
-    depth(first) > GREATEST_DEPTH - 1 || depth(second) > greatest
-}
-
-// Follows the one step of a theorem from its left body, and writes the chain.
-fn follow_exchange(
+// Checks the scripts of a theorem, and adds its chain and the text of the chain: how many
+// neighbours it has.
+fn add_chain(
     alloc: Global,
     text: &mut Vec<u8>,
-    sig: &Sig,
+    book: &mut Book<'_>,
     theorem: &TheoremItem,
-    left: &Proto,
-    right: &Proto,
-) -> Result<(), Stop>
-    requires left_within { IsProtocolWithin (length sig.now) (protocol_of left.now) }
-    requires right_within { IsProtocolWithin (length sig.now) (protocol_of right.now) }
-    ensures tests { Tests result (body_refusal sig.now (length text.old.items) theorem.now.name theorem.now.left theorem.now.right (protocol_of left.now) (protocol_of right.now)) }
-    ensures text { OnOk result (text.new.items ≡ text.old.items ++ chain_text sig.now theorem.now.name theorem.now.left theorem.now.right (protocol_of left.now)) }
+) -> Result<u64, Stop>
+    requires { IsReady book.old theorem.now }
+    ensures tests { Tests result (claim_refusal book.old.document.now.sig (assumptions_in (document_of book.old.document.now).entries)
+        (neighbours_in book.old.chains) (length text.old.items) (held_claim book.old.document.now theorem.now)) }
+    ensures text { OnOk result (text.new.items ≡ text.old.items
+        ++ claim_text book.old.document.now.sig (assumptions_in (document_of book.old.document.now).entries) (held_claim book.old.document.now theorem.now)) }
+    ensures count { IfOk result (λ count. count ≡ claim_neighbours (held_claim book.old.document.now theorem.now)) }
+    ensures neighbours { IfOk result (λ count. neighbours_in book.new.chains ≡ neighbours_in book.old.chains + count) }
+    ensures short { IfOk result (λ count. neighbours_in book.old.chains + count ≤ limit_number Limit.Chain) }
+    ensures document { book.new.document.now ≡ book.old.document.now }
 {
-    let Proto::Par(first, second) = left else {
-        return Err(no_match(alloc, &theorem.name, Side::Left, 1));
+    let chain = match check_theorem(alloc, book, theorem) {
+        Ok(chain) => chain,
+        Err(fault) => return Err(script_stop(alloc, theorem, fault)),
     };
-    if is_deep_par(second, first) {
-        return Err(step_too_deep(alloc, &theorem.name, Side::Left, 1));
-    }
-    if let Some(place) = exchanged_differs_at(alloc, left, right)? {
-        return Err(ends_differ(alloc, &theorem.name, place));
-    }
-    push_chain(text, sig, theorem, left, right)?;
+    push_chain(text, book.document, &chain)?;
     let limit = Limit::Output;
     if text.len() as u64 > limit.number() {
         return Err(over_at_theorem(alloc, limit, limit.number(), &theorem.name));
     }
-    Ok(())
+    let count = chain.neighbours();
+    book.add(chain)?;
+    Ok(count)
 }
 
-// Follows the script of a theorem. A document that is read has both protocols.
-fn follow_script(
-    alloc: Global,
-    text: &mut Vec<u8>,
-    document: &Document,
-    theorem: &TheoremItem,
-) -> Result<(), Stop>
-    requires { HasBodiesWithin (length document.now.sig) (document_of document.now).entries }
-    ensures tests { Tests result (exchange_refusal document.now.sig (length text.old.items) theorem.now.name theorem.now.left theorem.now.right (network_named (document_of document.now).entries theorem.now.left) (network_named (document_of document.now).entries theorem.now.right)) }
-    ensures text { OnOk result (text.new.items ≡ text.old.items ++ chain_between document.now.sig theorem.now.name theorem.now.left theorem.now.right (network_named (document_of document.now).entries theorem.now.left) (network_named (document_of document.now).entries theorem.now.right)) }
+fn has_built_scripts(theorem: &TheoremItem) -> bool
+    ensures { result ≡ (are_built_steps (map step_of theorem.now.left_steps) && are_built_steps (map step_of theorem.now.right_steps)) }
 {
-    let Some(left) = document.protocol(&theorem.left) else {
-        return Ok(());
-    };
-    let Some(right) = document.protocol(&theorem.right) else {
-        return Ok(());
-    };
-    follow_exchange(alloc, text, &document.sig, theorem, &left.body, &right.body)
+    are_built_steps(theorem.left_steps.as_slice())
+        && are_built_steps(theorem.right_steps.as_slice())
 }
 
-// Follows the script of an item that is a theorem, and writes its chain. The item has this index.
-fn follow_item(
+// Checks an item that is a theorem, and adds its chain and the text of the chain: how many
+// neighbours it has. The item has this index.
+fn add_item(
     alloc: Global,
     text: &mut Vec<u8>,
+    book: &mut Book<'_>,
     tree: &Tree,
-    document: &Document,
     index: usize,
     item: &Item,
-) -> Result<(), Stop>
-    requires { HasBodiesWithin (length document.now.sig) (document_of document.now).entries }
-    ensures tests { Tests result (theorem_refusal document.now.sig (document_of document.now).entries (item_offset (located tree.now) index) (length text.old.items) (entry_of document.now.sig item.now)) }
-    ensures text { OnOk result (text.new.items ≡ text.old.items ++ item_text document.now.sig (document_of document.now).entries (entry_of document.now.sig item.now)) }
+) -> Result<u64, Stop>
+    requires ready { IsReadyItem book.old item.now }
+    requires short { neighbours_in book.old.chains ≤ limit_number Limit.Chain }
+    ensures tests { Tests result (theorem_refusal book.old.document.now.sig (document_of book.old.document.now).entries (item_offset (located tree.now) index)
+        (neighbours_in book.old.chains) (length text.old.items) (entry_of book.old.document.now.sig item.now)) }
+    ensures text { OnOk result (text.new.items ≡ text.old.items
+        ++ item_text book.old.document.now.sig (document_of book.old.document.now).entries (entry_of book.old.document.now.sig item.now)) }
+    ensures count { IfOk result (λ count. count ≡ item_neighbours book.old.document.now.sig (document_of book.old.document.now).entries (entry_of book.old.document.now.sig item.now)) }
+    ensures neighbours { IfOk result (λ count. neighbours_in book.new.chains ≡ neighbours_in book.old.chains + count) }
+    ensures short { IfOk result (λ count. neighbours_in book.old.chains + count ≤ limit_number Limit.Chain) }
+    ensures document { book.new.document.now ≡ book.old.document.now }
 {
     match item {
-        Item::Theorem(theorem) if is_exchange_script(theorem) => {
-            follow_script(alloc, text, document, theorem)
+        Item::Theorem(theorem) if has_built_scripts(theorem) => {
+            add_chain(alloc, text, book, theorem)
         }
         Item::Theorem(_) => Err(Stop::Refused(Refusal::NotBuilt(item_offset(tree, index)))),
-        _ => Ok(()),
+        _ => Ok(0),
     }
+}
+
+fn theorem_count(document: &Document) -> u64
+    ensures { result ≡ theorem_count (document_of document.now).entries }
+{
+    let mut count = 0;
+    for item in document.items.as_slice() {
+        if let Item::Theorem(_) = item {
+            count += 1;
+        }
+    }
+    count
 }
 
 // The chains of a document and the last line, or the first test of a theorem that fails.
 pub(crate) fn proved_text(alloc: Global, tree: &Tree, document: &Document) -> Result<Vec<u8>, Stop>
-    requires { HasBodiesWithin (length document.now.sig) (document_of document.now).entries }
+    requires spelled { SpellsDocument (document_of document.now) (located tree.now) }
+    requires within { IsWithinLimits (document_of document.now) }
+    requires typed { IsTypedDocument (document_of document.now) }
     ensures tests { Tests result (script_refusal (document_of document.now) (located tree.now)) }
     ensures text { IfOk result (λ text. text.items ≡ proved_text (document_of document.now)) }
 {
     let mut text = Vec::new(alloc);
+    let mut book = Book::new(alloc, document);
+    let mut neighbours = 0;
     for (index, item) in document.items.as_slice().iter().enumerate() {
-        follow_item(alloc, &mut text, tree, document, index, item)?;
+        neighbours += add_item(alloc, &mut text, &mut book, tree, index, item)?;
     }
-    push_accepted_line(alloc, &mut text, document)?;
+    push_accepted_line(&mut text, theorem_count(document), neighbours)?;
     Ok(text)
 }

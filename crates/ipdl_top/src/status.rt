@@ -6,12 +6,11 @@ ghost use Rattle.ipdl_top.specs.Statuses.{status_number};
 /// How a run ended.
 #[derive(Clone, Copy, Debug, PartialEq, Eq)]
 pub enum Status {
-    /// Every step is an instance of its rule, and the ends meet.
+    /// What is asked is answered: for `check`, every step stands, and the ends of each theorem meet.
     Accepted,
-    /// A step is none, or two ends differ.
+    /// A step is wrong, or two ends differ.
     WrongStep,
-    /// The source is no document, or an item is ill typed, or a script is not of the form that is
-    /// followed.
+    /// The source is no document, or an item is ill typed, or a step is by a rule that is not built.
     BadSource,
     /// The words are none of the forms.
     Usage,

@@ -76,6 +76,18 @@ fn answers_documents(rt: HostRuntime) -> Result<(), Fail> {
             Status::WrongStep,
             "wrong t left 1 comm NoMatch\n",
         ),
+        (
+            "check",
+            "(ipdl 1 (protocol A (inputs) (outputs) (nil)) (theorem t A A (left (comm (9)) (beta ())) (right)))",
+            Status::BadSource,
+            "form 46 NotBuilt\n",
+        ),
+        (
+            "check",
+            "(ipdl 1 (protocol A (inputs) (outputs) (nil)) (theorem t A A (left) (right (rev (unit ()) (par (out c (ret x0)) (nil))))))",
+            Status::WrongStep,
+            "wrong t right 1 rev unit NoVariable 0\n",
+        ),
         ("", EXCHANGE, Status::Usage, "usage\n"),
         ("check,x", EXCHANGE, Status::Usage, "usage\n"),
     ] {
@@ -150,6 +162,39 @@ fn counts_the_bytes_of_the_chains(rt: HostRuntime) -> Result<(), Fail> {
         let (answer, sink) = outcome(rt.alloc(), "check", text.as_str().as_bytes(), CALM)?;
         assert_eq!(rt; answer, status);
         assert_eq!(rt; sink.taken().len(), taken);
+    }
+    Ok(())
+}
+
+// Four theorems of 2,048 steps each have as many neighbours as there may be, and a fifth one more.
+#[test]
+fn counts_the_neighbours_of_the_chains(rt: HostRuntime) -> Result<(), Fail> {
+    let mut steps = String::new(rt.alloc());
+    push_repeated(&mut steps, " (comm ())", 2048)?;
+    let steps = steps.as_str();
+    for (last, status, reply) in [
+        (
+            "",
+            Status::Accepted,
+            "accepted theorems 4 neighbours 8192\n",
+        ),
+        (
+            " (theorem u A A (left) (right (comm ())))",
+            Status::OverLimit,
+            "limit Chain 8192 at theorem u right 1\n",
+        ),
+    ] {
+        let mut text = String::from_str(
+            rt.alloc(),
+            "(ipdl 1 (protocol A (inputs) (outputs) (par (nil) (nil)))",
+        )?;
+        for number in 0..4 {
+            write!(text, " (theorem t{number} A A (left{steps}) (right))")?;
+        }
+        write!(text, "{last})")?;
+        let (answer, sink) = outcome(rt.alloc(), "check", text.as_str().as_bytes(), CALM)?;
+        assert_eq!(rt; answer, status);
+        assert!(rt; sink.taken().ends_with(reply.as_bytes()));
     }
     Ok(())
 }

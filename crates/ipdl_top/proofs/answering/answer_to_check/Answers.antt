@@ -1,12 +1,7 @@
 use Rattle.ipdl_tree.specs.Views.{located}
 use Rattle.ipdl_forms.specs.Documents.{document_of}
-use Rattle.ipdl_top.proofs.Spelled.{HasBodiesWithin-spelled}
 use Rattle.ipdl_top.proofs.Stopped.{Settles-check}
 use Rattle.ipdl_top.proofs.answering.answer_to_check.Goals as goal
-
-pub proved_text-requires : goal.proved_text-requires
-proved_text-requires c =
-    HasBodiesWithin-spelled (document_of c.args.document.now) (located c.args.tree.now) c.requires.spelled
 
 pub returns : goal.returns
 returns c =

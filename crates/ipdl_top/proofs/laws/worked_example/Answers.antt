@@ -1,6 +1,7 @@
 use Rattle.std.proofs.Common.{refl, arith}
 use Rattle.std.proofs.lemmas.Fmt.{decimal_digit}
-use Rattle.ipdl_top.specs.Chains.{proved_text, chain_text}
+use Rattle.ipdl_chain.specs.ChainTexts.{chain_text}
+use Rattle.ipdl_top.specs.Chains.{proved_text}
 use Rattle.ipdl_top.specs.Summaries.{summary_text}
 use Rattle.ipdl_top.proofs.Worked.{SpellsDocument-worked, IsWithinLimits-worked, IsProvedDocument-worked, HasShortChains-worked}
 use Rattle.ipdl_top.proofs.laws.worked_example.Goals as goal
@@ -31,3 +32,6 @@ returns-clause-summed c =
 
 pub returns-clause-refused : goal.returns-clause-refused
 returns-clause-refused c = rw (decimal_digit 0 (omega arith)) refl
+
+pub returns-clause-wrong : goal.returns-clause-wrong
+returns-clause-wrong c = rw (decimal_digit 0 (omega arith), decimal_digit 2 (omega arith)) refl

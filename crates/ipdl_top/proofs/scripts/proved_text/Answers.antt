@@ -1,21 +1,51 @@
-use Rattle.std.proofs.Common.{length, refl, ap, arith}
-use Rattle.std.proofs.lemmas.List.{length-map}
+use Rattle.std.proofs.Common.{◌≡◌, ◌<◌, Some, length, get_or, sym, ap, ◌∙◌, arith}
+use Rattle.std.proofs.lemmas.Option.{slice_get-get_or}
+use Rattle.std.proofs.lemmas.Result.{err_from_is_err_and}
 use Rattle.ipdl_tree.specs.Views.{located}
-use Rattle.ipdl_forms.specs.Documents.{document_of, entry_of}
-use Rattle.ipdl_top.proofs.Exchanges.{script_next}
-use Rattle.ipdl_top.proofs.Texts.{proved_text-pieces}
+use Rattle.ipdl_top.proofs.Readiness.{IsReadyItem-there}
+use Rattle.ipdl_top.proofs.Theorems.{IsDone-next, IsStop-item, proved_text-done}
 use Rattle.ipdl_top.proofs.scripts.proved_text.Goals as goal
+
+pub add_item-requires-clause-ready : goal.add_item-requires-clause-ready
+add_item-requires-clause-ready c =
+    let items = c.args.document.now.items in
+    let less : c.loop-index.index < length items = omega (arith, ap length c.as_slice-item-items.ensures) in
+    let there : c.item-item.result ≡ get_or items c.loop-index.index c.item-item.result =
+    let is = c.item-item.is in let slice = c.as_slice-item-items.ensures in cc in
+    IsReadyItem-there c.args.document.now (located c.args.tree.now) c.loop-index.book c.loop-index.index c.item-item.result
+    c.requires.spelled c.requires.within c.requires.typed c.loop-index.invariant.document
+    (omega (arith, c.loop-index.invariant.held, c.loop-index.invariant.short))
+    (slice_get-get_or items c.loop-index.index c.item-item.result less ∙ ap Some (sym there))
+
+pub returns-in_err-neighbours-clause-tests : goal.returns-in_err-neighbours-clause-tests
+returns-in_err-neighbours-clause-tests c =
+    let items = c.args.document.now.items in
+    let less : c.loop-index.index < length items = omega (arith, ap length c.as_slice-item-items.ensures) in
+    let there : c.item-item.result ≡ get_or items c.loop-index.index c.item-item.result =
+    let is = c.item-item.is in let slice = c.as_slice-item-items.ensures in cc in
+    let p = err_from_is_err_and c.from_residual.result c.from_residual.ensures.1 in
+    rw (p.1, p.2)
+    (IsStop-item c.loop-index.book.document.now c.args.document.now (located c.args.tree.now) c.loop-index.index c.item-item.result _ _ c.loop-index.text.items _
+    c.loop-index.invariant.document c.loop-index.invariant.held less there c.loop-index.invariant.done c.in_err-neighbours.ensures.tests)
 
 pub loop-index-preserved : goal.loop-index-preserved
 loop-index-preserved c =
-    let next = script_next (document_of c.args.document.now) (located c.args.tree.now) (entry_of c.args.document.now.sig) c.args.document.now.items c.loop-index.index c.item-item.result c.loop-index.text.items c.follow_item.new.text.items refl
-    (omega (arith, ap length c.as_slice-item-items.ensures))
-    (let is = c.item-item.is in let slice = c.as_slice-item-items.ensures in cc)
-    c.loop-index.invariant.tests c.loop-index.invariant.written c.in_ok-follow_item.ensures.tests c.in_ok-follow_item.ensures.text in
-    record { tests = next.0; written = next.1 }
+    let items = c.args.document.now.items in
+    let less : c.loop-index.index < length items = omega (arith, ap length c.as_slice-item-items.ensures) in
+    let there : c.item-item.result ≡ get_or items c.loop-index.index c.item-item.result =
+    let is = c.item-item.is in let slice = c.as_slice-item-items.ensures in cc in
+    record {
+      document = c.in_ok-neighbours.ensures.document ∙ c.loop-index.invariant.document;
+      done = IsDone-next c.loop-index.book.document.now c.args.document.now (located c.args.tree.now) c.loop-index.index c.item-item.result _ c.loop-index.neighbours c.in_ok-neighbours.field-0 c.loop-index.text.items c.add_item.new.text.items
+          c.loop-index.invariant.document c.loop-index.invariant.held less there c.loop-index.invariant.done
+          (c.in_ok-neighbours.ensures.tests, c.in_ok-neighbours.ensures.count, c.in_ok-neighbours.ensures.text);
+      held = omega (arith, c.in_ok-neighbours.ensures.neighbours, c.loop-index.invariant.held);
+      short = omega (arith, c.in_ok-neighbours.ensures.short, c.loop-index.invariant.held);
+    }
 
 pub returns-clause-text : goal.returns-clause-text
 returns-clause-text c =
-    proved_text-pieces (document_of c.args.document.now) c.loop-index.index c.loop-index.text.items _
-    (omega (arith, ap length c.as_slice-item-items.ensures, length-map c.args.document.now.items (entry_of c.args.document.now.sig)))
-    c.loop-index.invariant.written c.in_ok-push_accepted_line.ensures
+    proved_text-done c.args.document.now (located c.args.tree.now) c.loop-index.index c.loop-index.neighbours c.theorem_count.result c.loop-index.text.items _
+    c.loop-index.invariant.done
+    (omega (arith, ap length c.as_slice-item-items.ensures))
+    c.theorem_count.ensures c.in_ok-push_accepted_line.ensures

@@ -1,15 +1,16 @@
-use Rattle.std.proofs.Common.{◌≡◌, drop, take, map}
+use Rattle.std.proofs.Common.{◌≡◌, ◌≤◌}
+use Rattle.ipdl_base.specs.Limits.{limit_number}
+use Rattle.ipdl_base.specs.declared.limit.Limit.TheVariants.{Chain}
+use Rattle.ipdl_script.specs.Ready.{neighbours_in}
 use Rattle.ipdl_tree.specs.Views.{located}
-use Rattle.ipdl_forms.specs.Documents.{document_of, entry_of}
-use Rattle.ipdl_top.specs.Chains.{items_text}
-use Rattle.ipdl_top.specs.Refusals.{first_refusal}
-use Rattle.ipdl_top.specs.Scripts.{judged_by_script, script_refusal}
+use Rattle.ipdl_top.proofs.Theorems.{IsDone}
 use Rattle.ipdl_top.proofs.scripts.proved_text.Given as goal
 
--- the theorems so far are not refused, and their chains are written
+-- the items so far are not refused; their chains are in the book, and written
 abbrev pub invariant-loop-index : goal.invariant-loop-index
 invariant-loop-index l = record {
-  tests : script_refusal (document_of l.document) (located l.tree)
-      ≡ first_refusal (judged_by_script (document_of l.document) (located l.tree)) l.index (map (entry_of l.document.sig) (drop l.index l.document.items));
-  written : l.text.items ≡ items_text l.document.sig (document_of l.document).entries (take l.index (document_of l.document).entries);
+  document : l.book.document.now ≡ l.document;
+  done : IsDone l.document (located l.tree) l.index l.neighbours l.text.items;
+  held : neighbours_in l.book.chains ≡ l.neighbours;
+  short : l.neighbours ≤ limit_number Chain;
 }

@@ -1,7 +1,7 @@
 use Rattle.std.proofs.Common.{◌≡◌, ◌+◌, ◌≤◌, drop, map}
 use Rattle.ipdl_forms.specs.Documents.{document_of, entry_of}
 use Rattle.ipdl_top.specs.Chains.{theorem_count}
-use Rattle.ipdl_top.proofs.writing.theorem_count.Given as goal
+use Rattle.ipdl_top.proofs.scripts.theorem_count.Given as goal
 
 -- the theorems among the items so far are counted
 abbrev pub invariant-loop-item : goal.invariant-loop-item

@@ -14,6 +14,7 @@ use std::alloc::Global;
 use std::cmp::Ordering;
 use std::hash::{Hash, Hasher};
 use std::marker::Model;
+use std::rc::RcStr;
 use unicode_ident::{is_xid_continue, is_xid_start};
 
 /// Why a text was not read as a name.
@@ -27,21 +28,22 @@ pub enum NameFault {
 
 /// A text of at most 64 bytes that spells a name: its first character may start an identifier of
 /// Unicode or is `_`, and the later ones may continue one. Contracts see a name as the list of
-/// its bytes, and names are compared and ordered by these.
+/// its bytes, and names are compared and ordered by these. Copies share the memory of the text.
 #[derive(Debug, Drop)]
 pub struct Name {
-    text: String,
+    text: RcStr,
 }
 
 impl Model for Name {
-    ghost use Rattle.std.specs.Prelude.{List, ℕ, string_bytes, IsTrue};
+    ghost use Rattle.std.specs.Prelude.{List, ℕ, IsTrue};
+    ghost use Rattle.std.specs.Rc.{rc_str_bytes};
     ghost use Rattle.ipdl_base.specs.Names.{is_name};
 
     ghost Value = { List ℕ };
 
-    ghost view = { λ n. string_bytes n.text };
+    ghost view = { λ n. rc_str_bytes n.text };
 
-    ghost invariant = { λ n. IsTrue (is_name (string_bytes n.text)) };
+    ghost invariant = { λ n. IsTrue (is_name (rc_str_bytes n.text)) };
 }
 
 // Whether the character may stand at a place of a name: its first one, or a later one.
@@ -100,7 +102,7 @@ impl Name {
         requires { IsTrue (is_name text.now) }
         ensures { IfOk result (λ n. n ≡ text.now) }
     {
-        let text = String::from_str(alloc, text)?;
+        let text = RcStr::from_str(alloc, text)?;
         Ok(Name { text })
     }
 
@@ -112,11 +114,15 @@ impl Name {
         self.text.as_str()
     }
 
-    /// The same name in memory of its own.
+    /// The same name. It takes memory of its own only where the text has as many owners as can be
+    /// counted.
     pub fn copy(&self, alloc: Global) -> Result<Name, NoMemory>
         ensures { IfOk result (λ n. n ≡ self.now) }
     {
-        Name::of_text(alloc, self.text())
+        match self.text.clone() {
+            Ok(text) => Ok(Name { text }),
+            Err(_) => Name::of_text(alloc, self.text()),
+        }
     }
 }
 

@@ -1,6 +1,6 @@
 //! Paths: the place of a node in a term.
 
-ghost use Rattle.std.specs.Prelude.{◌≡◌, ◌↔◌, [], ◌∷◌, ◌++◌, IsTrue, OnOk, OnErr, bytes_eq};
+ghost use Rattle.std.specs.Prelude.{◌≡◌, ◌↔◌, [], ◌∷◌, ◌++◌, IfOk, IsTrue, OnOk, OnErr, bytes_eq};
 
 use crate::memory::NoMemory;
 use smallvec::SmallVec;
@@ -39,6 +39,15 @@ impl Path {
     {
         self.children.push(child)?;
         Ok(())
+    }
+
+    /// The path of these numbers, in memory of its own.
+    pub fn from_parts(alloc: Global, parts: &[u32]) -> Result<Path, NoMemory>
+        ensures { IfOk result (λ path. path ≡ parts.now) }
+    {
+        Ok(Path {
+            children: SmallVec::from_slice(alloc, parts)?,
+        })
     }
 
     /// The numbers of the children, the root's first.

@@ -154,6 +154,7 @@ fn grows_paths(rt: HostRuntime) -> Result<(), Fail> {
     let mut path = Path::root(rt.alloc());
     path.push(1)?;
     assert!(rt; path.parts() == [1].as_slice() && path != Path::root(rt.alloc()));
+    assert!(rt; Path::from_parts(rt.alloc(), path.parts())? == path);
     Ok(())
 }
 

@@ -1,10 +1,11 @@
 -- Room for the lifts: the tests and the binders on the way to a place are no greater and no more than those of the term.
-use Rattle.std.proofs.Common.{◌≡◌, ℕ, zero, suc, ◌+◌, ◌≤◌, max, List, [], ◌∷◌, length, Option, Some, None, arith}
+use Rattle.std.proofs.Common.{ℕ, zero, suc, ◌+◌, ◌≤◌, max, List, [], ◌∷◌, length, Option, Some, None, arith}
 use Rattle.std.specs.Prelude.{IfSome}
 use Rattle.std.specs.Option.{option_map_or}
 use Rattle.ipdl_term.specs.Sizes.{term_binders, greatest_in_term}
 use Rattle.ipdl_term.specs.Terms.{application, exclusive, conjunction, negation, concatenation, segment, equality, selection, returning, branching, binding, assignment, parallel, hiding, Term, protocol_term, reaction_term, expression_term}
 use Rattle.ipdl_term.specs.Places.{Child, child}
+use Rattle.ipdl_cursor.proofs.Steps.{binder_widths-with}
 use Rattle.ipdl_cursor.specs.Boundaries.{Boundary, channel, binder, arm, boundary_at, with_boundary, boundaries_to, binder_widths, greatest_in_arms}
 
 -- a child, and what is entered on the way to it
@@ -46,12 +47,6 @@ greatest_in_arms-with None bs = omega arith
 greatest_in_arms-with (Some (channel c w)) bs = omega arith
 greatest_in_arms-with (Some (binder w)) bs = omega arith
 greatest_in_arms-with (Some (arm e value)) bs = omega arith
-
-binder_widths-with : (b : Option Boundary) (bs : List Boundary) → length (binder_widths (with_boundary b bs)) ≡ length (binder_widths (with_boundary b [])) + length (binder_widths bs)
-binder_widths-with None bs = omega arith
-binder_widths-with (Some (channel c w)) bs = omega arith
-binder_widths-with (Some (binder w)) bs = omega arith
-binder_widths-with (Some (arm e value)) bs = omega arith
 
 -- the boundaries on the way from a term that has no greater tests and no more binders
 abbrev AreWithin : ℕ → ℕ → List Boundary → Type 0

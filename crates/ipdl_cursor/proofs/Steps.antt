@@ -1,11 +1,11 @@
 -- One step of a walk over a place, at an index of the place as a loop has it.
-use Rattle.std.proofs.Common.{◌≡◌, ℕ, ◌+◌, ◌<◌, List, [], ◌∷◌, ◌++◌, length, get_or, drop, Option, Some, None, refl, ap, sym, ◌∙◌, add-one, drop-cons, append_assoc}
+use Rattle.std.proofs.Common.{◌≡◌, ℕ, ◌+◌, ◌<◌, List, [], ◌∷◌, ◌++◌, length, get_or, drop, Option, Some, None, refl, ap, sym, ◌∙◌, add-one, drop-cons, append_assoc, arith}
 use Rattle.std.proofs.lemmas.List.{append-nil}
 use Rattle.std.specs.Prelude.{option_map, option_and_then}
 use Rattle.std.specs.Option.{option_map_or}
 use Rattle.ipdl_term.specs.Places.{Child, child, term_at}
 use Rattle.ipdl_term.specs.Terms.{Term}
-use Rattle.ipdl_cursor.specs.Boundaries.{Boundary, boundary_at, with_boundary, boundaries_to}
+use Rattle.ipdl_cursor.specs.Boundaries.{Boundary, channel, binder, arm, boundary_at, with_boundary, boundaries_to, binder_widths}
 use Rattle.ipdl_cursor.specs.Children.{child_part}
 
 -- where a child is there, as an option
@@ -67,3 +67,28 @@ boundaries-stopped place i t within is xs all so_far =
     let none : boundaries_to t (drop i place) ≡ [] =
     rw (drop-next place i within) (boundaries_at_no_child (boundary_at t (get_or place i 0)) (drop (i + 1) place) (child t (get_or place i 0)) is) in
     sym (append-nil xs) ∙ ap (λ zs. xs ++ zs) (sym none) ∙ so_far
+
+-- ---- binders
+
+pub binder_widths-with : (b : Option Boundary) (bs : List Boundary) → length (binder_widths (with_boundary b bs)) ≡ length (binder_widths (with_boundary b [])) + length (binder_widths bs)
+binder_widths-with None bs = omega arith
+binder_widths-with (Some (channel c w)) bs = omega arith
+binder_widths-with (Some (binder w)) bs = omega arith
+binder_widths-with (Some (arm e value)) bs = omega arith
+
+-- those that are entered to a child, and those from there on
+pub binders-ahead : (place : List ℕ) (i : ℕ) (t u : Term) → i < length place → child_part t (get_or place i 0) ≡ Some u →
+    length (binder_widths (boundaries_to t (drop i place))) ≡ length (binder_widths (with_boundary (boundary_at t (get_or place i 0)) [])) + length (binder_widths (boundaries_to u (drop (i + 1) place)))
+binders-ahead place i t u within is =
+    let b = boundary_at t (get_or place i 0) in
+    let rest = drop (i + 1) place in
+    let here : boundaries_to t (drop i place) ≡ with_boundary b (boundaries_to u rest) =
+    rw (drop-next place i within) (boundaries_at_some_child b rest (child t (get_or place i 0)) u is) in
+    ap (λ bs. length (binder_widths bs)) here ∙ binder_widths-with b (boundaries_to u rest)
+
+-- none where the place leaves the term
+pub binders-stopped : (place : List ℕ) (i : ℕ) (t : Term) → i < length place → child_part t (get_or place i 0) ≡ None → length (binder_widths (boundaries_to t (drop i place))) ≡ 0
+binders-stopped place i t within is =
+    let none : boundaries_to t (drop i place) ≡ [] =
+    rw (drop-next place i within) (boundaries_at_no_child (boundary_at t (get_or place i 0)) (drop (i + 1) place) (child t (get_or place i 0)) is) in
+    ap (λ bs. length (binder_widths bs)) none

@@ -7,12 +7,14 @@ mod contexts;
 mod counting;
 mod focusing;
 mod laws;
+mod locating;
 mod part_ref;
 mod rebuilding;
-mod setting;
+mod replacing;
 
 pub use contexts::context;
 pub use focusing::{FocusFault, Found, focus};
 pub use laws::scope_around_place;
+pub use locating::{Spot, locate};
 pub use part_ref::PartRef;
-pub use rebuilding::{RebuildFault, rebuild};
+pub use rebuilding::{RebuildFault, rebuild, replaced};

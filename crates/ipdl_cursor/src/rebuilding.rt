@@ -9,9 +9,9 @@ ghost use Rattle.ipdl_cursor.specs.Views.{part_of};
 
 use crate::counting::proto_nodes_with;
 use crate::part_ref::{PartRef, part_at};
-use crate::setting::set_in_proto;
+use crate::replacing::proto_with;
 use ipdl_base::{Limit, NoMemory, Path};
-use ipdl_term::{Part, Proto, copy_proto};
+use ipdl_term::{Part, Proto, boxed, copy_part};
 use std::alloc::Global;
 
 /// Why no protocol or context is answered.
@@ -38,28 +38,48 @@ fn is_of_kind(old: PartRef, new: &Part) -> bool
     }
 }
 
-// Whether the protocol with the part at the place has more than 4,096 nodes.
+/// The protocol with the part at the place. What stands beside the way is copied, and the part is
+/// moved. A caller shows that one of its kind stands there.
 #[tactic(auto, using(crate::proofs::PartKinds::part_kinds))]
-fn is_too_large(proto: &Proto, place: &[u32], part: &Part) -> bool
-    requires { IsSomeAnd (term_at (protocol_term (protocol_of proto.now)) place.now)
-        (λ old. AreOfOneKind old (term_of part.now)) }
-    ensures { IsTrue result ↔ (most_nodes < term_nodes
-        (term_with (protocol_term (protocol_of proto.now)) place.now (term_of part.now))) }
+pub fn replaced(
+    alloc: Global,
+    proto: &Proto,
+    path: &Path,
+    part: Box<Part>,
+) -> Result<Proto, NoMemory>
+    requires { IsSomeAnd (term_at (protocol_term (protocol_of proto.now)) path.now)
+        (λ old. AreOfOneKind old (term_of part.value)) }
+    ensures { IfOk result (λ whole. protocol_term (protocol_of whole) ≡
+        term_with (protocol_term (protocol_of proto.now)) path.now (term_of part.value)) }
 {
-    proto_nodes_with(proto, place, part) > Limit::Nodes.number()
+    proto_with(alloc, proto, path.parts(), part)
 }
 
 // The protocol with a copy of the part at the place.
-#[tactic(auto, using(crate::proofs::PartKinds::part_kinds))]
-fn proto_with(alloc: Global, proto: &Proto, place: &[u32], part: &Part) -> Result<Proto, NoMemory>
-    requires { IsSomeAnd (term_at (protocol_term (protocol_of proto.now)) place.now)
+fn replaced_by_copy(
+    alloc: Global,
+    proto: &Proto,
+    path: &Path,
+    part: &Part,
+) -> Result<Proto, NoMemory>
+    requires { IsSomeAnd (term_at (protocol_term (protocol_of proto.now)) path.now)
         (λ old. AreOfOneKind old (term_of part.now)) }
     ensures { IfOk result (λ whole. protocol_term (protocol_of whole) ≡
-        term_with (protocol_term (protocol_of proto.now)) place.now (term_of part.now)) }
+        term_with (protocol_term (protocol_of proto.now)) path.now (term_of part.now)) }
 {
-    let mut whole = copy_proto(alloc, proto)?;
-    set_in_proto(alloc, &mut whole, place, part)?;
-    Ok(whole)
+    let part = boxed(alloc, copy_part(alloc, part))?;
+    replaced(alloc, proto, path, part)
+}
+
+// Whether the protocol with the part at the place has more than 4,096 nodes.
+#[tactic(auto, using(crate::proofs::PartKinds::part_kinds))]
+fn is_too_large(proto: &Proto, path: &Path, part: &Part) -> bool
+    requires { IsSomeAnd (term_at (protocol_term (protocol_of proto.now)) path.now)
+        (λ old. AreOfOneKind old (term_of part.now)) }
+    ensures { IsTrue result ↔ (most_nodes < term_nodes
+        (term_with (protocol_term (protocol_of proto.now)) path.now (term_of part.now))) }
+{
+    proto_nodes_with(proto, path.parts(), part) > Limit::Nodes.number()
 }
 
 /// The protocol with a copy of the part at the place. `Nodes` exactly where that is too large,
@@ -88,10 +108,10 @@ pub fn rebuild(
     if !is_of_kind(old, part) {
         return Err(RebuildFault::Kind);
     }
-    if is_too_large(proto, path.parts(), part) {
+    if is_too_large(proto, path, part) {
         return Err(RebuildFault::Nodes);
     }
-    match proto_with(alloc, proto, path.parts(), part) {
+    match replaced_by_copy(alloc, proto, path, part) {
         Ok(whole) => Ok(whole),
         Err(_) => Err(RebuildFault::Memory),
     }

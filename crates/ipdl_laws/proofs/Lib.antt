@@ -18,7 +18,6 @@ pub mod EqualLaws
 pub mod Chances
 pub mod Products
 pub mod Structure
-pub mod Grouping
 pub mod ScopesAgree
 pub mod ContextTyping
 pub mod Numbers

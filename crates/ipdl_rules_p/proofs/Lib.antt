@@ -1,3 +1,4 @@
+mod Grouping
 pub mod RuleTyping
 pub mod RuleLaws
 pub mod InstanceLaws

@@ -6,7 +6,7 @@ use Rattle.ipdl_term.specs.Interpretations.{Signature}
 use Rattle.ipdl_term.specs.Terms.{Channel, Protocol, nil, parallel, hiding}
 use Rattle.ipdl_term.specs.Typing.{Scope, Typed}
 use Rattle.ipdl_laws.proofs.Congruence.{alike_comm}
-use Rattle.ipdl_laws.proofs.Grouping.{alike_assocr, alike_assocl, alike_scope}
+use Rattle.ipdl_rules_p.proofs.Grouping.{alike_assocr, alike_assocl, alike_scope}
 use Rattle.ipdl_rules_p.proofs.RuleTyping.{Typed-comm, Typed-assocl, Typed-assocr, Typed-unit, Typed-newswap, Typed-scope}
 use Rattle.ipdl_term.proofs.ChannelSets.{same_channel-sound}
 use Rattle.ipdl_laws.proofs.Sets.{by_test, AreDisjoint_swap, AreDisjoint-union}

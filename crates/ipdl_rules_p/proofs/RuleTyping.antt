@@ -5,7 +5,7 @@ use Rattle.ipdl_term.specs.Channels.{same_channel, has, union, SameSet, AreDisjo
 use Rattle.ipdl_term.specs.Interpretations.{Signature}
 use Rattle.ipdl_term.specs.Terms.{Channel, Protocol, nil, parallel, hiding}
 use Rattle.ipdl_term.specs.Typing.{Scope, scope_with, IsTyped, Typed}
-use Rattle.ipdl_laws.proofs.Grouping.{not_written, union-without}
+use Rattle.ipdl_rules_p.proofs.Grouping.{not_written, union-without}
 use Rattle.ipdl_laws.proofs.ReadingLaws.{free_channels-outputs}
 use Rattle.ipdl_laws.proofs.ScopesAgree.{IsTyped_agree}
 use Rattle.ipdl_laws.proofs.Sets.{by_test, if-true, if-false, if_same, not_both, or_comm, same_channel-false_swap, at_same_channel, in_union_right, has-without, union_comm, union_assoc, without_swap, AreDisjoint_swap, AreDisjoint-union, AreDisjoint_union}

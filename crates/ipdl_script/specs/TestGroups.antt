@@ -1,11 +1,14 @@
 -- The tests of a step in groups, as the calls make them: those of the part at the place, and those of the new whole term.
-use Rattle.std.specs.Prelude.{◌≡◌, List, [], ◌∷◌, Option, None, Result, Ok, Err, IsSomeAnd}
+use Rattle.std.specs.Prelude.{◌≡◌, ℕ, option_map, List, [], ◌∷◌, Option, None, Result, Ok, Err, IsSomeAnd}
+use Rattle.std.specs.Option.{option_or}
+use Rattle.ipdl_chain.specs.Chains.{last_of}
 use Rattle.ipdl_rules_p.specs.Matching as P
 use Rattle.ipdl_script.specs.Answers.{TellsRefusal, TellsWrong}
 use Rattle.ipdl_script.specs.Instances.{Answer, other_shape, answer_of_protocols}
-use Rattle.ipdl_script.specs.Scripts.{Wrong}
+use Rattle.ipdl_script.specs.EndPlaces.{differing_place}
+use Rattle.ipdl_script.specs.Scripts.{Wrong, right_side, wrong_ends, wrong_in_script, links_of_script}
 use Rattle.ipdl_script.specs.Settling.{unsettled_in_step}
-use Rattle.ipdl_script.specs.Steps.{Setting, Refusal, depth_at, settled_there, place_test, variable_test, match_test, side_test, size_test, result_test, channels_test, depth_test, type_test, part_of, answered_there, first_refusal, place_of, after_step}
+use Rattle.ipdl_script.specs.Steps.{Setting, Refusal, depth_at, settled_there, place_test, variable_test, match_test, side_test, size_test, result_test, nodes_test, channels_test, depth_test, type_test, part_of, answered_there, first_refusal, place_of, after_step}
 use Rattle.ipdl_script.specs.declared.fault.ScriptFault.{ScriptFault}
 use Rattle.ipdl_script.specs.declared.fault.StepFault.{StepFault}
 use Rattle.ipdl_term.specs.Places.{AreOfOneKind, protocol_or, term_with}
@@ -57,9 +60,18 @@ part_refusal x before step = first_refusal (part_tests x before step)
 
 -- the tests of the whole term that is made
 abbrev pub whole_refusal : Setting → (after : Protocol) → Option Refusal
-whole_refusal x after = first_refusal (channels_test after ∷ depth_test after ∷ type_test x after ∷ [])
+whole_refusal x after =
+    first_refusal (nodes_test after ∷ channels_test after ∷ depth_test after ∷ type_test x after ∷ [])
 
 -- The step puts this part in the place of one of its kind: where the tests pass, that is the new whole term.
 pub record IsChanged (x : Setting) (before : Protocol) (step : Step) (new : Term) : Type 0 where
   pub kind : IsSomeAnd (part_of before step) (λ old. AreOfOneKind old new)
   pub whole : after_step x before step ≡ protocol_or before (term_with (protocol_term before) (place_of step) new)
+
+-- ---- scripts
+
+-- what is wrong after the left side has come to its end: a step of the right side, and else the two ends
+abbrev pub wrong_on_right : Setting → (so_far : ℕ) → (left_end right : Protocol) → List Step → Option Wrong
+wrong_on_right x so_far left_end right steps =
+    option_or (wrong_in_script x so_far right_side 1 right steps)
+    (option_map wrong_ends (differing_place left_end (last_of right (links_of_script x right steps))))

@@ -33,7 +33,7 @@ pub use instances::{
     instance_exactly, instance_is_equal, replaced_and_put_back, settled_arguments,
 };
 pub use setting::Setting;
-pub use stepping::take_step;
+pub use stepping::{GREATEST_DEPTH, take_step};
 pub use steps::{first_refusal_is_told, one_result, step_exactly, step_is_equal};
 pub use theorem::{Book, check_theorem};
 pub use worked::{

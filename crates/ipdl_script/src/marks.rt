@@ -14,17 +14,6 @@ use ipdl_chain::Mark;
 use ipdl_term::{Dir, Rule, Step, rule_word};
 use std::alloc::Global;
 
-// The path of these children.
-pub(crate) fn path_of(alloc: Global, children: &[u32]) -> Result<Path, NoMemory>
-    ensures { IfOk result (λ path. path ≡ children.now) }
-{
-    let mut path = Path::root(alloc);
-    for child in children {
-        path.push(*child)?;
-    }
-    Ok(path)
-}
-
 // The word of the rule.
 #[tactic(auto, using(crate::proofs::RuleWords::words_are_names))]
 fn word_of(alloc: Global, rule: &Rule) -> Result<Name, NoMemory>
@@ -38,7 +27,7 @@ fn mark_by(alloc: Global, dir: Dir, rule: &Rule, place: &Path) -> Result<Mark, N
     ensures { IfOk result (λ mark.
         mark_of mark ≡ by_rule (direction_of dir) (rule_word (rule_of rule.now)) place.now) }
 {
-    let path = path_of(alloc, place.parts())?;
+    let path = Path::from_parts(alloc, place.parts())?;
     let word = word_of(alloc, rule)?;
     Ok(Mark::ByRule { dir, word, path })
 }

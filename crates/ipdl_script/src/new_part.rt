@@ -73,7 +73,7 @@ fn plain_part(
     ensures changed { IfOk result (λ new.
         IsChanged (setting_of setting.now) (protocol_of before.now) (plain path.now (rule_of rule.now)) (term_of new.value)) }
 {
-    let spot = find(alloc, setting, before, path)?;
+    let spot = find(setting, before, path)?;
     check_arguments(spot.depth, rule)?;
     right_side(alloc, rule, spot.part)
 }
@@ -127,7 +127,7 @@ fn rev_part(
     ensures changed { IfOk result (λ new.
         IsChanged (setting_of setting.now) (protocol_of before.now) (rev path.now (rule_of rule.now) (term_of term.now)) (term_of new.value)) }
 {
-    let spot = find(alloc, setting, before, path)?;
+    let spot = find(setting, before, path)?;
     check_arguments(spot.depth, rule)?;
     let written = settled(alloc, spot.depth, term)?;
     check_written(alloc, rule, &written, spot.part)?;
@@ -137,12 +137,12 @@ fn rev_part(
 // ---- a step
 
 // Why a step by an assumption or a theorem is refused.
-fn refused_invoke(alloc: Global, setting: &Setting<'_>, before: &Proto, path: &Path) -> StepFault
+fn refused_invoke(setting: &Setting<'_>, before: &Proto, path: &Path) -> StepFault
     requires { WholeFits (length setting.now.sig.now) (protocol_of before.now) }
     ensures { TellsRefusal result
         (option_or (place_test (term_at (protocol_term (protocol_of before.now)) path.now)) (Some no_match)) }
 {
-    match find(alloc, setting, before, path) {
+    match find(setting, before, path) {
         Ok(_) => StepFault::Refused(Cause::NoMatch),
         Err(fault) => fault,
     }
@@ -165,6 +165,6 @@ pub(crate) fn new_part(
     match step {
         Step::Plain { path, rule } => plain_part(alloc, setting, before, path, rule),
         Step::Rev { path, rule, term } => rev_part(alloc, setting, before, path, rule, term),
-        Step::Invoke { path, .. } => Err(refused_invoke(alloc, setting, before, path)),
+        Step::Invoke { path, .. } => Err(refused_invoke(setting, before, path)),
     }
 }

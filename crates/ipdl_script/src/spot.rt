@@ -14,9 +14,8 @@ ghost use Rattle.ipdl_term.specs.Views.{protocol_of};
 use crate::fault::{Cause, StepFault};
 use crate::setting::Setting;
 use ipdl_base::Path;
-use ipdl_cursor::{FocusFault, PartRef, focus};
+use ipdl_cursor::{PartRef, locate};
 use ipdl_term::Proto;
-use std::alloc::Global;
 
 // A place in the current term.
 #[derive(Clone, Copy)]
@@ -27,27 +26,25 @@ pub(crate) struct Spot<'a> {
     pub depth: u32,
 }
 
-// The place that the path leads to.
+// The place that the path leads to. The setting is that of the claims alone.
 pub(crate) fn find<'a>(
-    alloc: Global,
-    setting: &Setting<'_>,
+    _setting: &Setting<'_>,
     before: &'a Proto,
     path: &Path,
 ) -> Result<Spot<'a>, StepFault>
-    requires { WholeFits (length setting.now.sig.now) (protocol_of before.now) }
+    requires { WholeFits (length _setting.now.sig.now) (protocol_of before.now) }
     ensures test { AnswersTest result (place_test (term_at (protocol_term (protocol_of before.now)) path.now)) }
     ensures part { IfOk result (λ spot.
         term_at (protocol_term (protocol_of before.now)) path.now ≡ Some (part_of spot.part)) }
     ensures depth { IfOk result (λ spot.
-        spot.depth ≡ length (around_place (setting_of setting.now) (protocol_of before.now) path.now).widths) }
+        spot.depth ≡ length (around_place (setting_of _setting.now) (protocol_of before.now) path.now).widths) }
     ensures few { IfOk result (λ spot. spot.depth ≤ most_nodes) }
 {
-    match focus(alloc, setting.interface, before, path) {
-        Ok(found) => Ok(Spot {
+    match locate(before, path) {
+        Some(found) => Ok(Spot {
             part: found.part,
-            depth: found.widths.as_slice().len() as u32,
+            depth: found.depth as u32,
         }),
-        Err(FocusFault::NoPlace) => Err(StepFault::Refused(Cause::NoPlace)),
-        Err(FocusFault::Memory) => Err(StepFault::Memory),
+        None => Err(StepFault::Refused(Cause::NoPlace)),
     }
 }

@@ -1,76 +1,55 @@
 //! One step: from a whole term to the one that it makes of it.
 
-ghost use Rattle.std.specs.Prelude.{◌≡◌, ◌≤◌, IfOk, IsSomeAnd, OnOk, length};
-ghost use Rattle.ipdl_base.specs.Limits.{limit_number};
+ghost use Rattle.std.specs.Prelude.{◌≡◌, ◌≤◌, ◌<◌, ◌^◌, ◌-◌, [], ◌∷◌, ℕ, IfOk, OnOk, length};
 ghost use Rattle.ipdl_script.specs.Answers.{StepsFrom};
 ghost use Rattle.ipdl_script.specs.Fitting.{StepFits, WholeFits};
-ghost use Rattle.ipdl_script.specs.Steps.{channels_test, depth_test, nodes_test, place_of, type_test};
+ghost use Rattle.ipdl_script.specs.Steps.{KeepsLimits, channels_test, depth_test, first_refusal, limit_test, nodes_test, place_of, type_test};
 ghost use Rattle.ipdl_script.specs.TestGroups.{AnswersTest, whole_refusal};
 ghost use Rattle.ipdl_script.specs.Views.{setting_of};
-ghost use Rattle.ipdl_term.specs.Places.{AreOfOneKind, protocol_or, term_at, term_with};
-ghost use Rattle.ipdl_term.specs.Sizes.{channel_count, greatest_printed_depth, printed_depth};
+ghost use Rattle.ipdl_term.specs.Sizes.{saturated};
 ghost use Rattle.ipdl_term.specs.Steps.{step_of};
-ghost use Rattle.ipdl_term.specs.Terms.{protocol_term};
 ghost use Rattle.ipdl_term.specs.Typing.{HasInterface};
-ghost use Rattle.ipdl_term.specs.Views.{protocol_of, term_of};
+ghost use Rattle.ipdl_term.specs.Views.{protocol_of};
 ghost use Rattle.ipdl_typing.specs.Signatures.{signature_of};
 
 use crate::fault::{Cause, StepFault};
 use crate::new_part::new_part;
 use crate::setting::Setting;
 use ipdl_base::{Limit, Path};
-use ipdl_cursor::{RebuildFault, rebuild};
-use ipdl_term::{Part, Proto, Step, channels, depth};
+use ipdl_cursor::replaced;
+use ipdl_term::{Proto, Step, measure};
 use ipdl_typing::{TypeFault, check_proto};
 use std::alloc::Global;
 
-// The greatest depth of a protocol in print.
-const GREATEST_DEPTH: u64 = 190;
+/// The greatest depth of a protocol in print, in parentheses.
+pub const GREATEST_DEPTH: u64 = 190;
 
 // ---- the new whole term
 
-// The whole term with the new part at the place.
-#[tactic(auto, using(crate::proofs::WholeTerms::whole_terms))]
-fn replaced(alloc: Global, before: &Proto, path: &Path, part: &Part) -> Result<Proto, StepFault>
-    requires { IsSomeAnd (term_at (protocol_term (protocol_of before.now)) path.now)
-        (λ old. AreOfOneKind old (term_of part.now)) }
-    ensures test { AnswersTest result (nodes_test (protocol_or (protocol_of before.now)
-        (term_with (protocol_term (protocol_of before.now)) path.now (term_of part.now)))) }
-    ensures value { IfOk result (λ after. protocol_of after ≡ protocol_or (protocol_of before.now)
-        (term_with (protocol_term (protocol_of before.now)) path.now (term_of part.now))) }
-{
-    match rebuild(alloc, before, path, part) {
-        Ok(after) => Ok(after),
-        Err(RebuildFault::NoPlace | RebuildFault::Kind) => unreachable!(),
-        Err(RebuildFault::Nodes) => Err(StepFault::Over(Limit::Nodes)),
-        Err(RebuildFault::Memory) => Err(StepFault::Memory),
-    }
-}
-
-// Checks how many assignments there are.
+// Checks that a count is within a limit.
 #[tactic(auto, using(crate::proofs::WholeTerms::limit_tests))]
-fn check_channels(after: &Proto) -> Result<(), StepFault>
-    ensures test { AnswersTest result (channels_test (protocol_of after.now)) }
-    ensures few { OnOk result (channel_count (protocol_of after.now) ≤ limit_number Limit.Channels) }
+fn check_limit(limit: Limit, most: u64, count: u64) -> Result<(), StepFault>
+    requires { most < 2 ^ 64 - 1 }
+    ensures test { (n : ℕ) → count ≡ saturated n → AnswersTest result (limit_test limit most n) }
+    ensures kept { (n : ℕ) → count ≡ saturated n → OnOk result (n ≤ most) }
 {
-    if channels(after) > Limit::Channels.number() {
-        Err(StepFault::Over(Limit::Channels))
+    if count > most {
+        Err(StepFault::Over(limit))
     } else {
         Ok(())
     }
 }
 
-// Checks how deep the parentheses nest in print.
-#[tactic(auto, using(crate::proofs::WholeTerms::limit_tests))]
-fn check_depth(after: &Proto) -> Result<(), StepFault>
-    ensures test { AnswersTest result (depth_test (protocol_of after.now)) }
-    ensures flat { OnOk result (printed_depth (protocol_of after.now) ≤ greatest_printed_depth) }
+// Checks how many nodes and assignments there are, and how deep the parentheses nest in print.
+fn check_extent(after: &Proto) -> Result<(), StepFault>
+    ensures test { AnswersTest result (first_refusal (nodes_test (protocol_of after.now)
+        ∷ channels_test (protocol_of after.now) ∷ depth_test (protocol_of after.now) ∷ [])) }
+    ensures kept { OnOk result (KeepsLimits (protocol_of after.now)) }
 {
-    if depth(after) > GREATEST_DEPTH {
-        Err(StepFault::Over(Limit::Depth))
-    } else {
-        Ok(())
-    }
+    let extent = measure(after);
+    check_limit(Limit::Nodes, Limit::Nodes.number(), extent.nodes)?;
+    check_limit(Limit::Channels, Limit::Channels.number(), extent.channels)?;
+    check_limit(Limit::Depth, GREATEST_DEPTH, extent.depth)
 }
 
 // Checks that the term has the theorem's interface.
@@ -86,16 +65,14 @@ fn check_type(alloc: Global, setting: &Setting<'_>, after: &Proto) -> Result<(),
     }
 }
 
-// Checks all of these.
+// Checks both.
 fn check_whole(alloc: Global, setting: &Setting<'_>, after: &Proto) -> Result<(), StepFault>
     ensures test { AnswersTest result (whole_refusal (setting_of setting.now) (protocol_of after.now)) }
-    ensures few { OnOk result (channel_count (protocol_of after.now) ≤ limit_number Limit.Channels) }
-    ensures flat { OnOk result (printed_depth (protocol_of after.now) ≤ greatest_printed_depth) }
+    ensures kept { OnOk result (KeepsLimits (protocol_of after.now)) }
     ensures typed { OnOk result
         (HasInterface (signature_of setting.now.sig.now) setting.now.interface.now (protocol_of after.now)) }
 {
-    check_channels(after)?;
-    check_depth(after)?;
+    check_extent(after)?;
     check_type(alloc, setting, after)
 }
 
@@ -103,8 +80,7 @@ fn check_whole(alloc: Global, setting: &Setting<'_>, after: &Proto) -> Result<()
 fn accepted(alloc: Global, setting: &Setting<'_>, after: Proto) -> Result<Proto, StepFault>
     ensures test { AnswersTest result (whole_refusal (setting_of setting.now) (protocol_of after)) }
     ensures same { IfOk result (λ whole. protocol_of whole ≡ protocol_of after) }
-    ensures few { OnOk result (channel_count (protocol_of after) ≤ limit_number Limit.Channels) }
-    ensures flat { OnOk result (printed_depth (protocol_of after) ≤ greatest_printed_depth) }
+    ensures kept { OnOk result (KeepsLimits (protocol_of after)) }
     ensures typed { OnOk result
         (HasInterface (signature_of setting.now.sig.now) setting.now.interface.now (protocol_of after)) }
 {
@@ -143,6 +119,6 @@ pub fn take_step(
         HasInterface (signature_of setting.now.sig.now) setting.now.interface.now (protocol_of after)) }
 {
     let part = new_part(alloc, setting, before, step)?;
-    let after = replaced(alloc, before, path_of(step), &part)?;
+    let after = replaced(alloc, before, path_of(step), part)?;
     accepted(alloc, setting, after)
 }

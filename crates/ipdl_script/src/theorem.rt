@@ -1,34 +1,35 @@
 //! The check of a theorem: its chain, or what is wrong with its scripts.
 
-ghost use Rattle.std.specs.Prelude.{◌≡◌, ◌+◌, ◌≤◌, ◌∷◌, [], ◌++◌, Some, IfOk, OnErr, OnOk, length, option_map, suc};
+ghost use Rattle.std.specs.Prelude.{◌≡◌, ◌+◌, ◌≤◌, ◌∷◌, [], ◌++◌, All, Some, IfOk, OnErr, OnOk, length, map, option_map};
 ghost use Rattle.ipdl_base.specs.Limits.{limit_number};
 ghost use Rattle.ipdl_base.specs.declared.limit.Limit.TheVariants.{Chain as ChainLimit};
-ghost use Rattle.ipdl_chain.specs.Chains.{neighbour_count};
+ghost use Rattle.ipdl_chain.specs.Chains.{neighbour_count, turned_links};
 ghost use Rattle.ipdl_chain.specs.Views.{HasTermsWithin, chain_of};
 ghost use Rattle.ipdl_forms.specs.Lookups.{protocol_named};
 ghost use Rattle.ipdl_forms.specs.declared.document.ProtocolItem.{ProtocolItem as Found};
 ghost use Rattle.ipdl_script.specs.Answers.{AnswersTheorem};
 ghost use Rattle.ipdl_script.specs.EndPlaces.{differing_place};
+ghost use Rattle.ipdl_script.specs.Fitting.{StepFits, WholeFits};
 ghost use Rattle.ipdl_script.specs.HiddenNames.{hidden_in};
 ghost use Rattle.ipdl_script.specs.Ready.{HasFitSides, IsReady, neighbours_in, setting_at, theorem_between};
-ghost use Rattle.ipdl_script.specs.Scripts.{chain_of_scripts, first_wrong, wrong_ends};
-ghost use Rattle.ipdl_script.specs.TestGroups.{AnswersScripts};
+ghost use Rattle.ipdl_script.specs.Scripts.{chain_of_scripts, first_wrong, links_of_script, wrong_ends};
+ghost use Rattle.ipdl_script.specs.TestGroups.{AnswersScripts, wrong_on_right};
 ghost use Rattle.ipdl_script.specs.Trails.{IsTrail, trail_end, trail_first, trail_links};
 ghost use Rattle.ipdl_script.specs.Views.{setting_of};
 ghost use Rattle.ipdl_term.specs.Channels.{SameSet};
+ghost use Rattle.ipdl_term.specs.Steps.{step_of};
 ghost use Rattle.ipdl_term.specs.Views.{protocol_of};
 
 use crate::comparing::differing_at;
 use crate::fault::{ScriptFault, Side, Wrong};
 use crate::following::followed;
 use crate::hidden::hidden_in;
-use crate::marks::path_of;
 use crate::setting::Setting;
 use crate::trail::{Trail, turned_back};
-use ipdl_base::{List, NoMemory};
+use ipdl_base::{List, NoMemory, Path};
 use ipdl_chain::Chain;
 use ipdl_forms::{Document, TheoremItem};
-use ipdl_term::Proto;
+use ipdl_term::{Proto, Step};
 use std::alloc::Global;
 
 /// A document, and the chains of its theorems so far.
@@ -65,25 +66,56 @@ fn neighbours_in(chains: &[Chain]) -> u64
     requires { neighbours_in chains.now ≤ limit_number ChainLimit }
     ensures { result ≡ neighbours_in chains.now }
 {
-    match chains.split_first() {
-        Some((chain, rest)) => chain.neighbours() + neighbours_in(rest),
-        None => 0,
+    let mut count = 0;
+    for chain in chains {
+        count += chain.neighbours();
     }
+    count
 }
 
 // Checks that both sides have come to one term.
-fn check_ends(alloc: Global, lefts: &Trail, rights: &Trail) -> Result<(), ScriptFault>
-    requires left { length lefts.now.terms ≡ suc (length lefts.now.marks) }
-    requires right { length rights.now.terms ≡ suc (length rights.now.marks) }
+fn check_ends(alloc: Global, left: &Proto, right: &Proto) -> Result<(), ScriptFault>
     ensures { AnswersScripts result
-        (option_map wrong_ends (differing_place (trail_end lefts.now) (trail_end rights.now))) }
+        (option_map wrong_ends (differing_place (protocol_of left.now) (protocol_of right.now))) }
 {
-    match differing_at(alloc, lefts.end(), rights.end())? {
+    match differing_at(alloc, left, right)? {
         Some(place) => Err(ScriptFault::Wrong(Wrong::Ends {
-            path: path_of(alloc, place.as_slice())?,
+            path: Path::from_parts(alloc, place.as_slice())?,
         })),
         None => Ok(()),
     }
+}
+
+// The left trail, and then the right one back to the right protocol. A side without steps needs no
+// trail: it ends at its protocol.
+fn trail_across(
+    alloc: Global,
+    setting: &Setting<'_>,
+    neighbours: u64,
+    lefts: Trail,
+    right: &Proto,
+    steps: &[Step],
+) -> Result<Trail, ScriptFault>
+    requires trail { IsTrail (length setting.now.sig.now) lefts }
+    requires whole { WholeFits (length setting.now.sig.now) (protocol_of right.now) }
+    requires steps { All (λ step. StepFits (step_of step)) steps.now }
+    requires short { neighbours ≤ limit_number ChainLimit }
+    ensures test { AnswersScripts result (wrong_on_right (setting_of setting.now) neighbours
+        (trail_end lefts) (protocol_of right.now) (map step_of steps.now)) }
+    ensures first { IfOk result (λ trail. trail_first trail ≡ trail_first lefts) }
+    ensures links { IfOk result (λ trail. trail_links trail ≡ trail_links lefts ++ turned_links (protocol_of right.now)
+        (links_of_script (setting_of setting.now) (protocol_of right.now) (map step_of steps.now))) }
+    ensures trail { IfOk result (λ trail. IsTrail (length setting.now.sig.now) trail) }
+    ensures short { OnOk result (neighbours + neighbour_count (links_of_script (setting_of setting.now)
+        (protocol_of right.now) (map step_of steps.now)) ≤ limit_number ChainLimit) }
+{
+    if steps.is_empty() {
+        check_ends(alloc, lefts.end(), right)?;
+        return Ok(lefts);
+    }
+    let rights = followed(alloc, setting, neighbours, Side::Right, right, steps)?;
+    check_ends(alloc, lefts.end(), rights.end())?;
+    Ok(turned_back(lefts, rights)?)
 }
 
 // The trail from the left protocol to the right one.
@@ -109,9 +141,7 @@ fn trail_between(
     let lefts = followed(alloc, setting, neighbours, Side::Left, left, steps)?;
     let so_far = neighbours + lefts.marks.as_slice().len() as u64;
     let steps = theorem.right_steps.as_slice();
-    let rights = followed(alloc, setting, so_far, Side::Right, right, steps)?;
-    check_ends(alloc, &lefts, &rights)?;
-    Ok(turned_back(lefts, rights)?)
+    trail_across(alloc, setting, so_far, lefts, right, steps)
 }
 
 // The trail as the chain of the theorem.

@@ -8,38 +8,22 @@ ghost use Rattle.ipdl_script.specs.TestGroups.{AnswersTest};
 ghost use Rattle.ipdl_term.specs.Rules.{rule_arguments};
 ghost use Rattle.ipdl_term.specs.Sizes.{most_nodes, greatest_in_term, term_binders};
 ghost use Rattle.ipdl_term.specs.Steps.{rule_of};
-ghost use Rattle.ipdl_term.specs.Variables.{settled_term, unsettled_in_expression, unsettled_number};
-ghost use Rattle.ipdl_term.specs.Views.{expression_of, term_of};
+ghost use Rattle.ipdl_term.specs.Variables.{settled_term, unsettled_number};
+ghost use Rattle.ipdl_term.specs.Views.{term_of};
 
 use crate::fault::{Cause, StepFault};
-use ipdl_term::{Expr, Part, Rule, SettleFault, boxed, settle};
+use ipdl_term::{Part, Rule, SettleFault, boxed, settle, unsettled_in_expr};
 use std::alloc::Global;
 
-// The first outer variable in preorder that is not below the depth.
-fn unsettled_in(depth: u32, term: &Expr) -> Option<u32>
-    ensures { result ≡ unsettled_in_expression depth (expression_of term.now) }
-{
-    match term {
-        Expr::Lit(_) | Expr::Var(_) => None,
-        Expr::Outer(n) => if *n < depth { None } else { Some(*n) },
-        Expr::Apply(_, e) | Expr::Not(e) | Expr::Cut(_, _, e) => unsettled_in(depth, e),
-        Expr::Xor(a, b) | Expr::And(a, b) | Expr::Cat(a, b) | Expr::Same(a, b) => {
-            unsettled_in(depth, a).or(unsettled_in(depth, b))
-        }
-        Expr::Mux(c, a, b) => unsettled_in(depth, c).or(unsettled_in(depth, a).or(unsettled_in(
-            depth, b,
-        ))),
-    }
-}
-
-// That of the arguments of the rule.
+// The first outer variable of the rule's arguments that has no binder, where so many are around the
+// place.
 fn unsettled_argument(depth: u32, rule: &Rule) -> Option<u32>
     requires { depth ≤ most_nodes }
     ensures { result ≡ unsettled_in_arguments depth (rule_arguments (rule_of rule.now)) }
 {
     match rule {
-        Rule::Mask(e) => unsettled_in(depth + 1, e),
-        Rule::Table(_, e) | Rule::Lin(e) => unsettled_in(depth, e),
+        Rule::Mask(e) => unsettled_in_expr(depth + 1, e),
+        Rule::Table(_, e) | Rule::Lin(e) => unsettled_in_expr(depth, e),
         _ => None,
     }
 }

@@ -41,8 +41,10 @@ pub use protocol::Proto;
 pub use put::{TermFault, put_expr, put_react};
 pub use reaction::React;
 pub use sets::{free, must, outs, reads};
-pub use settling::{SettleFault, settle};
-pub use sizes::{channels, coins, depth, expr_nodes, nodes, proto_nodes, react_nodes};
+pub use settling::{SettleFault, settle, unsettled_in_expr};
+pub use sizes::{
+    Extent, channels, coins, depth, expr_nodes, measure, nodes, proto_nodes, react_nodes,
+};
 pub use step::{Dir, Rule, Step};
 pub use words::{plain_rule, rule_number, rule_word};
 pub use worked::{

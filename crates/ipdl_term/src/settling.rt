@@ -22,8 +22,9 @@ pub enum SettleFault {
     Memory,
 }
 
-// The first outer variable that is not below the depth, in an expression.
-fn unsettled_in_expr(depth: u32, term: &Expr) -> Option<u32>
+/// The first outer variable of the expression, in preorder, that has no binder where so many stand
+/// around the place.
+pub fn unsettled_in_expr(depth: u32, term: &Expr) -> Option<u32>
     ensures { result ≡ unsettled_in_expression depth (expression_of term.now) }
 {
     match term {

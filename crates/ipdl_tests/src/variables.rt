@@ -7,7 +7,7 @@ ghost use Rattle.ipdl_term.specs.Terms.{variable, exclusive, flipping, returning
 use ipdl_base::{Name, NoMemory};
 use ipdl_term::{
     Ctx, Expr, Part, Proto, React, SettleFault, TermFault, boxed, lift_expr, lift_react, plug,
-    put_expr, put_react, settle, uses,
+    put_expr, put_react, settle, unsettled_in_expr, uses,
 };
 use std::alloc::Global;
 
@@ -111,6 +111,10 @@ fn refuses(alloc: Global) -> Option<SettleFault> {
 #[test]
 fn uses_and_settles_variables(rt: HostRuntime) {
     let alloc = rt.alloc();
+    assert!(rt;
+        unsettled_in_expr(2, &Expr::Outer(2)) == Some(2)
+            && unsettled_in_expr(2, &Expr::Outer(1)).is_none()
+    );
     assert!(rt; uses_under_binders(alloc) == Some(true));
     assert!(rt; settles(alloc) == Some(true));
     assert!(rt; refuses(alloc) == Some(SettleFault::NoVariable { number: 2 }));

@@ -13,13 +13,10 @@ ghost use Rattle.ipdl_top.specs.declared.refusal.Stop.TheVariants.{Memory};
 use crate::status::Status;
 use ipdl_base::{Limit, Name, NoMemory, Path, Pos};
 use ipdl_forms::{DocFault, FormCause};
-use ipdl_script::{Cause, Side};
+use ipdl_script::{Cause, GREATEST_DEPTH, Side};
 use ipdl_tree::{SpellCause, TreeFault};
 use ipdl_typing::{Ill, TypeFault};
 use std::alloc::Global;
-
-// The greatest depth of a protocol in print.
-pub(crate) const GREATEST_DEPTH: u64 = 190;
 
 // Where a limit is passed. The first step of a side has the number 1.
 #[derive(Drop)]

@@ -2,42 +2,47 @@
 
 ghost use Rattle.std.specs.Prelude.{◌≡◌, nat_lt};
 ghost use Rattle.ipdl_base.specs.Limits.{limit_number};
-ghost use Rattle.ipdl_term.specs.Sizes.{channel_count, printed_depth, greatest_printed_depth};
+ghost use Rattle.ipdl_term.specs.Sizes.{channel_count, printed_depth, greatest_printed_depth, saturated};
+ghost use Rattle.ipdl_term.specs.Terms.{Protocol};
 ghost use Rattle.ipdl_term.specs.Views.{protocol_of};
 ghost use Rattle.ipdl_forms.specs.Documents.{entry_of, document_of};
 ghost use Rattle.ipdl_top.specs.Lookups.{network_named};
 ghost use Rattle.ipdl_top.specs.Told.{Tests};
 ghost use Rattle.ipdl_top.specs.Typed.{protocol_refusal, sides_refusal, item_refusal, type_refusal};
 
-use crate::refusal::{GREATEST_DEPTH, Stop, ill, over_at_item};
+use crate::refusal::{Stop, ill, over_at_item};
 use ipdl_base::{Limit, Name};
 use ipdl_forms::{Document, Item, ProtocolItem};
+use ipdl_script::GREATEST_DEPTH;
 use ipdl_sig::Sig;
-use ipdl_term::{Proto, channels, depth};
+use ipdl_term::{Extent, measure};
 use ipdl_typing::{check_proto, check_sides};
 use std::alloc::Global;
 
-fn has_many_channels(body: &Proto) -> bool
-    ensures { result ≡ nat_lt (limit_number Limit.Channels) (channel_count (protocol_of body.now)) }
+fn has_many_channels(extent: Extent) -> bool
+    ensures { (body : Protocol) → extent.channels ≡ saturated (channel_count body) →
+        result ≡ nat_lt (limit_number Limit.Channels) (channel_count body) }
 {
-    channels(body) > Limit::Channels.number()
+    extent.channels > Limit::Channels.number()
 }
 
-fn is_deep(body: &Proto) -> bool
-    ensures { result ≡ nat_lt greatest_printed_depth (printed_depth (protocol_of body.now)) }
+fn is_deep(extent: Extent) -> bool
+    ensures { (body : Protocol) → extent.depth ≡ saturated (printed_depth body) →
+        result ≡ nat_lt greatest_printed_depth (printed_depth body) }
 {
-    depth(body) > GREATEST_DEPTH
+    extent.depth > GREATEST_DEPTH
 }
 
 fn test_protocol(alloc: Global, sig: &Sig, protocol: &ProtocolItem) -> Result<(), Stop>
     ensures { Tests result (protocol_refusal sig.now protocol.now.name protocol.now.interface (protocol_of protocol.now.body)) }
 {
     let name = &protocol.name;
-    if has_many_channels(&protocol.body) {
+    let extent = measure(&protocol.body);
+    if has_many_channels(extent) {
         let limit = Limit::Channels;
         return Err(over_at_item(alloc, limit, limit.number(), name));
     }
-    if is_deep(&protocol.body) {
+    if is_deep(extent) {
         return Err(over_at_item(alloc, Limit::Depth, GREATEST_DEPTH, name));
     }
     match check_proto(alloc, sig, &protocol.interface, &protocol.body) {

@@ -1,3 +1,4 @@
+use Rattle.std.specs.Rc.{rc_str_bytes}
 use Rattle.std.proofs.Common.{◌≡◌, ℕ, ◌-◌, ◌≤◌, List, [], ◌∷◌, ◌++◌, length, take, drop, sym, ◌∙◌, ap, subst, arith}
 use Rattle.std.specs.Prelude.{OnOk, Some, codes}
 use Rattle.std.proofs.lemmas.Result.{err_from_is_err_and}
@@ -117,7 +118,7 @@ read_hidden-returns-clause-read t c =
     let is = first_and_rest c.args.ports.now c.first-item.result c.in-len1-up.len_at_least c.first-item.is in
     let d = located c.first-item.result in
     let y = located c.args.body.now in
-    let name = c.channel.inside.text.bytes.items in
+    let name = rc_str_bytes c.channel.inside.text in
     let inside = protocol_of c.in_ok-new.field-0.value in
     let same : c.in_ok-channel.channel ≡ name = cc (c.channel.view_is) in
     let port = subst (λ x. SpellsPort x c.in_ok-channel.width d) same c.in_ok-channel.ensures.spelled in

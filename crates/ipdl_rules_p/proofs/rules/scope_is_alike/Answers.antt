@@ -1,4 +1,4 @@
-use Rattle.ipdl_laws.proofs.Grouping.{alike_scope}
+use Rattle.ipdl_rules_p.proofs.Grouping.{alike_scope}
 use Rattle.ipdl_rules_p.proofs.rules.scope_is_alike.Goals as goal
 
 pub returns : goal.returns

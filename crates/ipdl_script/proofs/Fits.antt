@@ -1,19 +1,15 @@
 -- Room for the variables: a term has no more binders than nodes, and no variable without one.
-use Rattle.std.proofs.Common.{◌≡◌, ℕ, ◌+◌, ◌^◌, ◌<◌, ◌≤◌, List, ◌++◌, length, ap, ◌∙◌, subst, arith}
-use Rattle.std.proofs.lemmas.List.{length-map, length-reverse}
-use Rattle.ipdl_cursor.specs.Boundaries.{boundaries_to, binder_widths}
-use Rattle.ipdl_cursor.proofs.AroundPlaces.{binder_widths-around}
-use Rattle.ipdl_cursor.proofs.Rooms.{room}
+use Rattle.std.proofs.Common.{ℕ, ◌+◌, ◌^◌, ◌<◌, ◌≤◌, List, ◌++◌, length, subst, arith}
+use Rattle.std.proofs.lemmas.List.{length-map}
 use Rattle.ipdl_sig.specs.declared.symbol.Symbol.{Symbol}
 use Rattle.ipdl_term.proofs.WithinLemmas.{IsProtocolWithin-typed}
 use Rattle.ipdl_term.specs.declared.interface.Interface.{Interface}
 use Rattle.ipdl_typing.specs.Signatures.{symbol_of, signature_of}
-use Rattle.ipdl_script.specs.Steps.{KeepsLimits}
+use Rattle.ipdl_script.specs.Ready.{setting_at}
 use Rattle.ipdl_script.specs.Fitting.{WholeFits, IsTermWithin}
 use Rattle.ipdl_term.specs.Sizes.{most_nodes, reaction_nodes, protocol_nodes, term_nodes, reaction_binders, protocol_binders, term_binders, greatest_in_expression, greatest_in_reaction, greatest_in_protocol, greatest_in_term}
-use Rattle.ipdl_term.specs.Surroundings.{around, outermost}
 use Rattle.ipdl_term.specs.Terms.{Expression, literal, variable, outer, application, exclusive, conjunction, negation, concatenation, segment, equality, selection, Reaction, returning, flipping, reading, branching, binding, Protocol, nil, assignment, parallel, hiding, Term, protocol_term, reaction_term, expression_term}
-use Rattle.ipdl_term.specs.Typing.{Scope, HasInterface, scope_of}
+use Rattle.ipdl_term.specs.Typing.{scope_of}
 use Rattle.ipdl_term.specs.Within.{IsExpressionWithin, IsReactionWithin, IsProtocolWithin}
 
 -- ---- binders
@@ -61,23 +57,10 @@ greatest_in_protocol-bound n (hiding c w p) h = greatest_in_protocol-bound n p h
 
 -- ---- a whole term that fits
 
--- a typed term within the limits fits
-pub typed_fits : (symbols : List Symbol) (interface : Interface) (p : Protocol) → KeepsLimits p → HasInterface (signature_of symbols) interface p → WholeFits (length symbols) p
-typed_fits symbols interface p limits typed = record {
-  limits = limits;
-  bound = subst (λ n. IsProtocolWithin n p) (length-map symbols symbol_of) (IsProtocolWithin-typed (signature_of symbols) (scope_of (interface.inputs ++ interface.outputs)) p typed.typed);
-}
-
-pub whole_has_room : (n : ℕ) (p : Protocol) → WholeFits n p → greatest_in_protocol p + protocol_binders p < 2 ^ 32
-whole_has_room n p h = omega (arith, h.limits.nodes, protocol_binders-few p, greatest_in_protocol-bound n p h.bound)
-
--- the binders around a place
-pub few_around : (n : ℕ) (p : Protocol) (place : List ℕ) (S : Scope) → WholeFits n p → length (around (outermost S) (protocol_term p) place).widths ≤ most_nodes
-few_around n p place S h =
-    let around_it = (around (outermost S) (protocol_term p) place).widths in
-    let counted : length (binder_widths (boundaries_to (protocol_term p) place)) ≡ length around_it = ap length (binder_widths-around S p place) ∙ length-reverse around_it in
-    let most = (room (protocol_term p) place).1 in
-    omega (arith, counted, most, h.limits.nodes, protocol_binders-few p)
+-- its symbols are those of the document, and each of its variables has a binder
+pub whole_is_within : (symbols : List Symbol) (interface : Interface) (p : Protocol) → WholeFits (setting_at symbols interface) p → IsProtocolWithin (length symbols) p
+whole_is_within symbols interface p h =
+    subst (λ n. IsProtocolWithin n p) (length-map symbols symbol_of) (IsProtocolWithin-typed (signature_of symbols) (scope_of (interface.inputs ++ interface.outputs)) p h.typed.typed)
 
 -- ---- a step that fits
 

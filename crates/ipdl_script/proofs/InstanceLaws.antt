@@ -77,8 +77,8 @@ protocol_is p _ h = absurd h
 -- ---- equality
 
 pub instance_is_equal : (sig : Signature) (scope : Scope) (written : List Channel) (p q : Protocol) (place : List ℕ) (rule : Rule) (left right : Term) →
-    Typed sig scope p written → Typed sig scope q written → term_at (protocol_term p) place ≡ Some left → term_with (protocol_term p) place right ≡ protocol_term q →
+    Typed sig scope p written → term_at (protocol_term p) place ≡ Some left → term_with (protocol_term p) place right ≡ protocol_term q →
     IsInstanceAt sig (around (outermost scope) (protocol_term p) place) rule left right → Equal sig scope written p q
-instance_is_equal sig scope written p q place rule (protocol_term left) (protocol_term right) typed typed' at with inst =
+instance_is_equal sig scope written p q place rule (protocol_term left) (protocol_term right) typed at with inst =
     instance_at_place sig scope written p q place rule left right typed at with inst
-instance_is_equal sig scope written p q place rule _ _ typed typed' at with inst = absurd inst
+instance_is_equal sig scope written p q place rule _ _ typed at with inst = absurd inst

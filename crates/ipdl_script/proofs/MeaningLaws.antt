@@ -21,17 +21,17 @@ module _ (x : Setting) where
   turned_round : (p q : Protocol) → AreEqual x p q → AreEqual x q p
   turned_round p q h = equal_sym x.sig (scope_in x) (port_names x.interface.outputs) p q h
 
-  rewritten_is_equal : (rule : Rule) (place : List ℕ) (first second : Protocol) → HasInterface x.sig x.interface first → HasInterface x.sig x.interface second → IsRewritten x rule place first second → AreEqual x first second
-  rewritten_is_equal rule place first second typed typed' h =
-      instance_is_equal x.sig (scope_in x) (port_names x.interface.outputs) first second place rule h.left h.right typed typed' h.there h.whole h.sides
+  rewritten_is_equal : (rule : Rule) (place : List ℕ) (first second : Protocol) → HasInterface x.sig x.interface first → IsRewritten x rule place first second → AreEqual x first second
+  rewritten_is_equal rule place first second typed h =
+      instance_is_equal x.sig (scope_in x) (port_names x.interface.outputs) first second place rule h.left h.right typed h.there h.whole h.sides
 
   -- ---- steps
 
   pub step_is_equal : (before : Protocol) (step : Step) (after : Protocol) → HasInterface x.sig x.interface before → IsStep x before step after → AreEqual x before after
   step_is_equal before (plain place rule) after typed h =
-      rewritten_is_equal _ place before after typed h.typed (rewritten x before place rule after h)
+      rewritten_is_equal _ place before after typed (rewritten x before place rule after h)
   step_is_equal before (rev place rule term) after typed h =
-      turned_round after before (rewritten_is_equal _ place after before h.typed typed (rewritten_back x before place rule term after h))
+      turned_round after before (rewritten_is_equal _ place after before h.typed (rewritten_back x before place rule term after h))
   step_is_equal before (invoke place name direction pairs) after typed h = absurd h.change
 
   -- the neighbours that a step gives, and those after them

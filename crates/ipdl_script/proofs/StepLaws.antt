@@ -4,19 +4,20 @@ use Rattle.std.specs.Prelude.{◌↔◌, option_map}
 use Rattle.ipdl_base.specs.Limits.{limit_number}
 use Rattle.ipdl_base.specs.declared.limit.Limit.TheVariants.{Nodes, Channels, Depth}
 use Rattle.ipdl_laws.proofs.Replacing.{kept}
-use Rattle.ipdl_script.proofs.InstanceLaws.{instance_answers, answer_is_instance, instance_kinds, one_kind, protocol_is}
+use Rattle.ipdl_script.proofs.InstanceLaws.{instance_answers, answer_is_instance, instance_kinds, instance_is_equal, one_kind, protocol_is}
 use Rattle.ipdl_script.proofs.StepTests.{first_refusal-passed, all_pass, refused_unless-true, true_unless, limit_test-kept, limit_is_kept, no_failure, all_bound, answer_of_kind, kind_of_answer}
 use Rattle.ipdl_script.specs.Instances.{IsInstanceAt, Answer, other_shape, failing, gives, answer_at}
 use Rattle.ipdl_script.specs.Settling.{unsettled_in_step, settled_rule}
-use Rattle.ipdl_script.specs.Steps.{Setting, scope_in, place_of, depth_at, around_step, settled_there, IsChange, result_side, KeepsLimits, IsStep, is_of_kind, answer_to, changed, AllPass, ill_typed, nodes_test, channels_test, depth_test, type_test, tests_of, part_of, answered_there, step_tests, first_refusal, step_refusal, after_step}
+use Rattle.ipdl_script.specs.Steps.{Setting, scope_in, place_of, depth_at, around_step, settled_there, IsChange, result_side, KeepsLimits, IsStep, is_of_kind, place_test, match_test, side_test, answer_to, changed, AllPass, ill_typed, nodes_test, channels_test, depth_test, type_test, tests_of, part_of, answered_there, step_tests, first_refusal, step_refusal, after_step}
+use Rattle.ipdl_script.specs.TestGroups.{part_tests, part_refusal}
 use Rattle.ipdl_term.specs.Places.{protocol_or, AreOfOneKind, term_at, term_with}
 use Rattle.ipdl_term.specs.Rules.{Rule, row_of}
 use Rattle.ipdl_term.specs.Same.{same_term, same_term-itself, same_term-Decides}
 use Rattle.ipdl_term.specs.Sizes.{most_nodes, term_nodes, protocol_nodes, channel_count, printed_depth, greatest_printed_depth}
 use Rattle.ipdl_term.specs.Steps.{Step, plain, rev, invoke}
-use Rattle.ipdl_term.specs.Surroundings.{Surroundings, outermost}
+use Rattle.ipdl_term.specs.Surroundings.{Surroundings, around, outermost}
 use Rattle.ipdl_term.specs.Terms.{Protocol, Term, protocol_term}
-use Rattle.ipdl_term.specs.Typing.{HasInterface}
+use Rattle.ipdl_term.specs.Typing.{HasInterface, port_names}
 use Rattle.ipdl_term.specs.Variables.{settled_term}
 use Rattle.ipdl_typing.proofs.ProtocolTyping.{HasInterface-clean}
 use Rattle.ipdl_typing.proofs.Typed.{interface-HasInterface}
@@ -135,7 +136,28 @@ module _ (x : Setting) (before : Protocol) (s : Surroundings) where
       }
   found (invoke place name direction pairs) unsettled (Some old) (gives right) at e h = cc
 
+  -- A step from the left side to the right one keeps the type.
+  plain_typed : (place : List ℕ) (rule : Rule) (part : Option Term) (answered : Answer) → HasInterface x.sig x.interface before → s ≡ around (outermost (scope_in x)) (protocol_term before) place →
+      term_at (protocol_term before) place ≡ part → answer_to x s (plain place rule) part ≡ answered → place_test part ≡ None → match_test answered ≡ None → side_test answered ≡ None →
+      HasInterface x.sig x.interface (changed before (plain place rule) answered)
+  plain_typed place rule None answered typed around_it at e there matched held = cc
+  plain_typed place rule (Some old) other_shape typed around_it at e there matched held = cc
+  plain_typed place rule (Some old) (failing number) typed around_it at e there matched held = cc
+  plain_typed place rule (Some old) (gives new) typed around_it at e there matched held =
+      let given = kind_of_answer (is_of_kind (row_of rule).kind old) (answer_at x.sig s rule old) new e in
+      let inst = answer_is_instance x.sig s rule old new given.1 in
+      let whole = whole_is place old new at (one_kind (row_of rule).kind old new given.0 (instance_kinds x.sig s rule old new inst).1) in
+      (instance_is_equal x.sig (scope_in x) (port_names x.interface.outputs) before _ place rule old new typed at whole (subst (λ t. IsInstanceAt x.sig t rule old new) around_it inst)).right
+
 -- ---- a step
+
+-- that keeps the type where no test of its part refuses
+pub plain_keeps_type : (x : Setting) (before : Protocol) (place : List ℕ) (rule : Rule) → HasInterface x.sig x.interface before → part_refusal x before (plain place rule) ≡ None →
+    HasInterface x.sig x.interface (after_step x before (plain place rule))
+plain_keeps_type x before place rule typed h =
+    let step = plain place rule in
+    let passed = all_pass (part_tests x before step) h in
+    plain_typed x before (around_step x before step) place (settled_rule (depth_at x before step) rule) (part_of before step) (answered_there x before step) typed refl refl refl passed.0 passed.1.1.0 passed.1.1.1.0
 
 module _ (x : Setting) (before : Protocol) where
   abbrev Stands : Step → Protocol → Type 0

@@ -1,22 +1,20 @@
 -- A step from the two groups of its tests.
-use Rattle.std.proofs.Common.{◌≡◌, List, [], ◌∷◌, length, Result, Ok, Err, None, ap, sym, ◌∙◌, subst}
+use Rattle.std.proofs.Common.{◌≡◌, [], ◌∷◌, Result, Ok, Err, None, ap, sym, ◌∙◌, subst}
 use Rattle.std.specs.Option.{option_or}
-use Rattle.std.specs.Prelude.{IfOk, OnOk}
-use Rattle.ipdl_script.proofs.Fits.{typed_fits}
+use Rattle.std.specs.Prelude.{IfOk, option_map}
+use Rattle.ipdl_typing.proofs.Typed.{interface-HasInterface}
+use Rattle.ipdl_typing.specs.Checks.{first_failure}
+use Rattle.ipdl_script.proofs.StepLaws.{plain_keeps_type}
 use Rattle.ipdl_script.proofs.Refusals.{told_first, told_later, none_told, first_refusal-append}
 use Rattle.ipdl_script.specs.Answers.{TellsRefusal, StepsFrom}
-use Rattle.ipdl_script.specs.Fitting.{WholeFits}
-use Rattle.ipdl_script.specs.Steps.{Setting, KeepsLimits, nodes_test, channels_test, depth_test, type_test, step_refusal, after_step}
-use Rattle.ipdl_script.specs.TestGroups.{AnswersTest, part_tests, part_refusal, whole_refusal}
+use Rattle.ipdl_script.specs.Steps.{Setting, nodes_test, channels_test, depth_test, type_test, ill_typed, step_refusal, after_step}
+use Rattle.ipdl_script.specs.TestGroups.{AnswersTest, IsPlain, part_tests, part_refusal, whole_refusal}
 use Rattle.ipdl_script.specs.declared.fault.StepFault.{StepFault}
-use Rattle.ipdl_sig.specs.declared.symbol.Symbol.{Symbol}
-use Rattle.ipdl_term.specs.Steps.{Step}
+use Rattle.ipdl_term.specs.Steps.{Step, plain, rev, invoke}
 use Rattle.ipdl_term.specs.Terms.{Protocol}
 use Rattle.ipdl_term.specs.Typing.{HasInterface}
 use Rattle.ipdl_term.specs.Views.{protocol_of}
-use Rattle.ipdl_term.specs.declared.interface.Interface.{Interface}
 use Rattle.ipdl_term.specs.declared.protocol.Proto.{Proto}
-use Rattle.ipdl_typing.specs.Signatures.{signature_of}
 
 module _ (x : Setting) (before : Protocol) (step : Step) where
   -- the refusal of a step is that of its part, and else that of the new whole term
@@ -34,9 +32,13 @@ module _ (x : Setting) (before : Protocol) (step : Step) where
   told_of_whole after (Err fault) part is h same =
       subst (TellsRefusal fault) (sym split) (told_later fault _ _ part (subst (λ p. TellsRefusal fault (whole_refusal x p)) (sym is) h))
 
--- a whole term that passes fits
-pub fits_after : (symbols : List Symbol) (interface : Interface) (after : Protocol) (r : Result Proto StepFault) → IfOk r (λ whole. protocol_of whole ≡ after) →
-    OnOk r (KeepsLimits after) → OnOk r (HasInterface (signature_of symbols) interface after) →
-    IfOk r (λ whole. WholeFits (length symbols) (protocol_of whole))
-fits_after symbols interface after (Ok whole) same kept typed = subst (WholeFits (length symbols)) (sym same) (typed_fits symbols interface after kept typed)
-fits_after symbols interface after (Err fault) same kept typed = tt
+-- a typed whole term passes the test of its type
+pub typed_passes : (x : Setting) (after : Protocol) → HasInterface x.sig x.interface after → type_test x after ≡ None
+typed_passes x after typed = ap (λ fs. option_map ill_typed (first_failure fs)) (interface-HasInterface x.sig x.interface after typed)
+
+-- what a step that is no `rev` leads to is typed
+pub plain_is_typed : (x : Setting) (before : Protocol) (step : Step) (after : Protocol) → HasInterface x.sig x.interface before → part_refusal x before step ≡ None → after_step x before step ≡ after →
+    IsPlain step → HasInterface x.sig x.interface after
+plain_is_typed x before (plain place rule) after typed part is h = subst (HasInterface x.sig x.interface) is (plain_keeps_type x before place rule typed part)
+plain_is_typed x before (rev place rule term) after typed part is h = absurd h
+plain_is_typed x before (invoke place name direction pairs) after typed part is h = absurd h

@@ -3,13 +3,14 @@ use Rattle.std.specs.Prelude.{ℕ, ◌+◌, ◌^◌, ◌<◌}
 use Rattle.ipdl_term.specs.Sizes.{most_nodes, term_binders, greatest_in_term}
 use Rattle.ipdl_term.specs.Steps.{Step, plain, rev, invoke}
 use Rattle.ipdl_term.specs.Terms.{Protocol, Term, protocol_term, reaction_term, expression_term}
+use Rattle.ipdl_term.specs.Typing.{HasInterface}
 use Rattle.ipdl_term.specs.Within.{IsExpressionWithin, IsReactionWithin, IsProtocolWithin}
-use Rattle.ipdl_script.specs.Steps.{KeepsLimits}
+use Rattle.ipdl_script.specs.Steps.{Setting, KeepsLimits}
 
--- It is within the limits, its symbols are among the first so many, and each of its variables has a binder.
-pub record WholeFits (symbols : ℕ) (p : Protocol) : Type 0 where
+-- It is within the limits, and has the theorem's interface.
+pub record WholeFits (x : Setting) (p : Protocol) : Type 0 where
   pub limits : KeepsLimits p
-  pub bound : IsProtocolWithin symbols p
+  pub typed : HasInterface x.sig x.interface p
 
 -- The variables of the term that is written out keep 32 bits, whatever place it is put at.
 abbrev pub StepFits : Step → Type 0

@@ -13,7 +13,7 @@ use Rattle.ipdl_script.specs.declared.fault.ScriptFault.{ScriptFault}
 use Rattle.ipdl_script.specs.declared.fault.StepFault.{StepFault}
 use Rattle.ipdl_term.specs.Places.{AreOfOneKind, protocol_or, term_with}
 use Rattle.ipdl_term.specs.Rules.{Rule}
-use Rattle.ipdl_term.specs.Steps.{Step}
+use Rattle.ipdl_term.specs.Steps.{Step, plain}
 use Rattle.ipdl_term.specs.Terms.{Protocol, Term, protocol_term}
 
 -- a call passes where nothing refuses, and else tells the refusal
@@ -67,6 +67,11 @@ whole_refusal x after =
 pub record IsChanged (x : Setting) (before : Protocol) (step : Step) (new : Term) : Type 0 where
   pub kind : IsSomeAnd (part_of before step) (λ old. AreOfOneKind old new)
   pub whole : after_step x before step ≡ protocol_or before (term_with (protocol_term before) (place_of step) new)
+
+-- the step goes from the left side of its rule to the right one
+abbrev pub IsPlain : Step → Type 0
+IsPlain (plain place rule) = Unit {0}
+IsPlain _ = ⊥
 
 -- ---- scripts
 

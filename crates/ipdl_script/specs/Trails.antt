@@ -1,9 +1,10 @@
 -- Trails: the whole terms of one side as the program holds them, and what they stand for.
-use Rattle.std.specs.Prelude.{◌≡◌, ℕ, suc, List, [], ◌∷◌, ◌++◌, length, All}
+use Rattle.std.specs.Prelude.{◌≡◌, suc, List, [], ◌∷◌, ◌++◌, length, All}
 use Rattle.ipdl_chain.specs.Chains.{Link, last_of, turned_mark}
 use Rattle.ipdl_chain.specs.Views.{mark_of, first_of, others_of, links_of}
 use Rattle.ipdl_chain.specs.declared.chain.Mark.{Mark as HeldMark}
 use Rattle.ipdl_script.specs.Fitting.{WholeFits}
+use Rattle.ipdl_script.specs.Steps.{Setting}
 use Rattle.ipdl_script.specs.declared.trail.Trail.{Trail}
 use Rattle.ipdl_term.specs.Steps.{Step, plain, rev, invoke}
 use Rattle.ipdl_term.specs.Terms.{Protocol}
@@ -23,9 +24,9 @@ abbrev pub trail_end : Trail → Protocol
 trail_end trail = last_of (trail_first trail) (trail_links trail)
 
 -- There is one term more than marks, and each term fits.
-pub record IsTrail (symbols : ℕ) (trail : Trail) : Type 0 where
+pub record IsTrail (x : Setting) (trail : Trail) : Type 0 where
   pub paired : length trail.terms ≡ suc (length trail.marks)
-  pub fit : All (λ term. WholeFits symbols (protocol_of term)) trail.terms
+  pub fit : All (λ term. WholeFits x (protocol_of term)) trail.terms
 
 -- the step is by a rule, which its mark names
 abbrev pub IsByRule : Step → Type 0

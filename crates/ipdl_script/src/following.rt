@@ -6,7 +6,7 @@ ghost use Rattle.ipdl_chain.specs.Chains.{neighbour_count};
 ghost use Rattle.ipdl_script.specs.Answers.{TellsRefusal, TellsWrong};
 ghost use Rattle.ipdl_script.specs.Fitting.{StepFits, WholeFits};
 ghost use Rattle.ipdl_script.specs.Scripts.{links_of_script, links_of_step, refusal_in_script, wrong_in_script, wrong_step};
-ghost use Rattle.ipdl_script.specs.Steps.{Refusal, after_step};
+ghost use Rattle.ipdl_script.specs.Steps.{Refusal, Setting as PlainSetting, after_step};
 ghost use Rattle.ipdl_script.specs.TestGroups.{AnswersScripts, AnswersTest};
 ghost use Rattle.ipdl_script.specs.Trails.{IsByRule, IsTrail, trail_end, trail_first, trail_links};
 ghost use Rattle.ipdl_script.specs.Views.{setting_of, side_of};
@@ -31,13 +31,13 @@ fn next_term(
     before: &Proto,
     step: &Step,
 ) -> Result<Proto, StepFault>
-    requires whole { WholeFits (length setting.now.sig.now) (protocol_of before.now) }
+    requires whole { WholeFits (setting_of setting.now) (protocol_of before.now) }
     requires term { StepFits (step_of step.now) }
     ensures test { AnswersTest result
         (refusal_in_script (setting_of setting.now) neighbours (protocol_of before.now) (step_of step.now)) }
     ensures value { IfOk result (λ after.
         protocol_of after ≡ after_step (setting_of setting.now) (protocol_of before.now) (step_of step.now)) }
-    ensures fits { IfOk result (λ after. WholeFits (length setting.now.sig.now) (protocol_of after)) }
+    ensures fits { IfOk result (λ after. WholeFits (setting_of setting.now) (protocol_of after)) }
     ensures by_rule { OnOk result (IsByRule (step_of step.now)) }
     ensures short { OnOk result (neighbours + 1 ≤ limit_number Limit.Chain) }
 {
@@ -56,8 +56,8 @@ fn push_by(alloc: Global, trail: &mut Trail, after: Proto, step: &Step) -> Resul
     ensures first { OnOk result (trail_first trail.new ≡ trail_first trail.old) }
     ensures links { OnOk result (trail_links trail.new
         ≡ trail_links trail.old ++ links_of_step (step_of step.now) (protocol_of after)) }
-    ensures trail { (symbols : ℕ) → IsTrail symbols trail.old → WholeFits symbols (protocol_of after) →
-        OnOk result (IsTrail symbols trail.new) }
+    ensures trail { (x : PlainSetting) → IsTrail x trail.old → WholeFits x (protocol_of after) →
+        OnOk result (IsTrail x trail.new) }
 {
     match mark_of_step(alloc, step) {
         Ok(mark) => trail.push(after, mark),
@@ -73,14 +73,14 @@ fn push_step(
     trail: &mut Trail,
     step: &Step,
 ) -> Result<(), StepFault>
-    requires trail { IsTrail (length setting.now.sig.now) trail.old }
+    requires trail { IsTrail (setting_of setting.now) trail.old }
     requires term { StepFits (step_of step.now) }
     ensures test { AnswersTest result
         (refusal_in_script (setting_of setting.now) neighbours (trail_end trail.old) (step_of step.now)) }
     ensures first { OnOk result (trail_first trail.new ≡ trail_first trail.old) }
     ensures links { OnOk result (trail_links trail.new ≡ trail_links trail.old
         ++ links_of_step (step_of step.now) (after_step (setting_of setting.now) (trail_end trail.old) (step_of step.now))) }
-    ensures trail { OnOk result (IsTrail (length setting.now.sig.now) trail.new) }
+    ensures trail { OnOk result (IsTrail (setting_of setting.now) trail.new) }
     ensures by_rule { OnOk result (IsByRule (step_of step.now)) }
     ensures short { OnOk result (neighbours + 1 ≤ limit_number Limit.Chain) }
 {
@@ -112,7 +112,7 @@ fn follow(
     trail: &mut Trail,
     steps: &[Step],
 ) -> Result<(), ScriptFault>
-    requires trail { IsTrail (length setting.now.sig.now) trail.old }
+    requires trail { IsTrail (setting_of setting.now) trail.old }
     requires steps { All (λ step. StepFits (step_of step)) steps.now }
     requires short { neighbours ≤ limit_number Limit.Chain }
     requires number { number ≤ neighbours + 1 }
@@ -121,7 +121,7 @@ fn follow(
     ensures first { OnOk result (trail_first trail.new ≡ trail_first trail.old) }
     ensures links { OnOk result (trail_links trail.new ≡ trail_links trail.old
         ++ links_of_script (setting_of setting.now) (trail_end trail.old) (map step_of steps.now)) }
-    ensures trail { OnOk result (IsTrail (length setting.now.sig.now) trail.new) }
+    ensures trail { OnOk result (IsTrail (setting_of setting.now) trail.new) }
     ensures short { OnOk result (neighbours + neighbour_count (links_of_script (setting_of setting.now)
         (trail_end trail.old) (map step_of steps.now)) ≤ limit_number Limit.Chain) }
 {
@@ -151,7 +151,7 @@ pub(crate) fn followed(
     from: &Proto,
     steps: &[Step],
 ) -> Result<Trail, ScriptFault>
-    requires whole { WholeFits (length setting.now.sig.now) (protocol_of from.now) }
+    requires whole { WholeFits (setting_of setting.now) (protocol_of from.now) }
     requires steps { All (λ step. StepFits (step_of step)) steps.now }
     requires short { neighbours ≤ limit_number Limit.Chain }
     ensures test { AnswersScripts result (wrong_in_script (setting_of setting.now) neighbours (side_of side) 1
@@ -159,7 +159,7 @@ pub(crate) fn followed(
     ensures first { IfOk result (λ trail. trail_first trail ≡ protocol_of from.now) }
     ensures links { IfOk result (λ trail. trail_links trail
         ≡ links_of_script (setting_of setting.now) (protocol_of from.now) (map step_of steps.now)) }
-    ensures trail { IfOk result (λ trail. IsTrail (length setting.now.sig.now) trail) }
+    ensures trail { IfOk result (λ trail. IsTrail (setting_of setting.now) trail) }
     ensures short { OnOk result (neighbours + neighbour_count (links_of_script (setting_of setting.now)
         (protocol_of from.now) (map step_of steps.now)) ≤ limit_number Limit.Chain) }
 {

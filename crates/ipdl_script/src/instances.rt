@@ -18,12 +18,12 @@ pub fn instance_exactly()
 {}
 
 /// A left side of a rule that is replaced, at its place in a typed protocol, by the right side
-/// leaves the whole equal, if the new whole is typed too.
+/// leaves the whole equal, and so typed.
 pub fn instance_is_equal()
     ensures { (sig : Signature) (scope : Scope) (written : List Channel)
         (p q : Protocol) (place : List ℕ) (rule : Rule) (left right : Term) →
         let whole = protocol_term p in
-        Typed sig scope p written → Typed sig scope q written →
+        Typed sig scope p written →
         term_at whole place ≡ Some left → term_with whole place right ≡ protocol_term q →
         IsInstanceAt sig (around (outermost scope) whole place) rule left right →
         Equal sig scope written p q }

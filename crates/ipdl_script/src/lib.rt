@@ -28,7 +28,7 @@ pub use chains::{
 pub use comparing::differing_at;
 pub use differences::{differ_first, differ_nowhere, one_first_place};
 pub use fault::{Cause, ScriptFault, Side, StepFault, Wrong};
-pub use fitting::{small_step_fits, typed_whole_fits};
+pub use fitting::small_step_fits;
 pub use instances::{
     instance_exactly, instance_is_equal, replaced_and_put_back, settled_arguments,
 };

@@ -67,7 +67,7 @@ fn plain_part(
     path: &Path,
     rule: &Rule,
 ) -> Result<Box<Part>, StepFault>
-    requires { WholeFits (length setting.now.sig.now) (protocol_of before.now) }
+    requires { WholeFits (setting_of setting.now) (protocol_of before.now) }
     ensures test { AnswersTest result
         (part_refusal (setting_of setting.now) (protocol_of before.now) (plain path.now (rule_of rule.now))) }
     ensures changed { IfOk result (λ new.
@@ -120,7 +120,7 @@ fn rev_part(
     rule: &Rule,
     term: &Part,
 ) -> Result<Box<Part>, StepFault>
-    requires whole { WholeFits (length setting.now.sig.now) (protocol_of before.now) }
+    requires whole { WholeFits (setting_of setting.now) (protocol_of before.now) }
     requires term { StepFits (rev path.now (rule_of rule.now) (term_of term.now)) }
     ensures test { AnswersTest result
         (part_refusal (setting_of setting.now) (protocol_of before.now) (rev path.now (rule_of rule.now) (term_of term.now))) }
@@ -138,7 +138,7 @@ fn rev_part(
 
 // Why a step by an assumption or a theorem is refused.
 fn refused_invoke(setting: &Setting<'_>, before: &Proto, path: &Path) -> StepFault
-    requires { WholeFits (length setting.now.sig.now) (protocol_of before.now) }
+    requires { WholeFits (setting_of setting.now) (protocol_of before.now) }
     ensures { TellsRefusal result
         (option_or (place_test (term_at (protocol_term (protocol_of before.now)) path.now)) (Some no_match)) }
 {
@@ -155,7 +155,7 @@ pub(crate) fn new_part(
     before: &Proto,
     step: &Step,
 ) -> Result<Box<Part>, StepFault>
-    requires whole { WholeFits (length setting.now.sig.now) (protocol_of before.now) }
+    requires whole { WholeFits (setting_of setting.now) (protocol_of before.now) }
     requires term { StepFits (step_of step.now) }
     ensures test { AnswersTest result
         (part_refusal (setting_of setting.now) (protocol_of before.now) (step_of step.now)) }

@@ -32,7 +32,7 @@ pub(crate) fn find<'a>(
     before: &'a Proto,
     path: &Path,
 ) -> Result<Spot<'a>, StepFault>
-    requires { WholeFits (length _setting.now.sig.now) (protocol_of before.now) }
+    requires { WholeFits (setting_of _setting.now) (protocol_of before.now) }
     ensures test { AnswersTest result (place_test (term_at (protocol_term (protocol_of before.now)) path.now)) }
     ensures part { IfOk result (λ spot.
         term_at (protocol_term (protocol_of before.now)) path.now ≡ Some (part_of spot.part)) }

@@ -1,10 +1,10 @@
 //! One step: from a whole term to the one that it makes of it.
 
-ghost use Rattle.std.specs.Prelude.{◌≡◌, ◌≤◌, ◌<◌, ◌^◌, ◌-◌, [], ◌∷◌, ℕ, IfOk, OnOk, length};
+ghost use Rattle.std.specs.Prelude.{◌≡◌, ◌≤◌, ◌<◌, ◌^◌, ◌-◌, [], ◌∷◌, ℕ, IfOk, OnOk};
 ghost use Rattle.ipdl_script.specs.Answers.{StepsFrom};
 ghost use Rattle.ipdl_script.specs.Fitting.{StepFits, WholeFits};
 ghost use Rattle.ipdl_script.specs.Steps.{KeepsLimits, channels_test, depth_test, first_refusal, limit_test, nodes_test, place_of, type_test};
-ghost use Rattle.ipdl_script.specs.TestGroups.{AnswersTest, whole_refusal};
+ghost use Rattle.ipdl_script.specs.TestGroups.{AnswersTest, IsPlain, whole_refusal};
 ghost use Rattle.ipdl_script.specs.Views.{setting_of};
 ghost use Rattle.ipdl_term.specs.Sizes.{saturated};
 ghost use Rattle.ipdl_term.specs.Steps.{step_of};
@@ -65,26 +65,55 @@ fn check_type(alloc: Global, setting: &Setting<'_>, after: &Proto) -> Result<(),
     }
 }
 
-// Checks both.
-fn check_whole(alloc: Global, setting: &Setting<'_>, after: &Proto) -> Result<(), StepFault>
-    ensures test { AnswersTest result (whole_refusal (setting_of setting.now) (protocol_of after.now)) }
-    ensures kept { OnOk result (KeepsLimits (protocol_of after.now)) }
+// Checks the type after the step. A step from the left side of a rule to the right one keeps it.
+fn check_type_after(
+    alloc: Global,
+    setting: &Setting<'_>,
+    step: &Step,
+    after: &Proto,
+) -> Result<(), StepFault>
+    requires { IsPlain (step_of step.now) →
+        HasInterface (signature_of setting.now.sig.now) setting.now.interface.now (protocol_of after.now) }
+    ensures test { AnswersTest result (type_test (setting_of setting.now) (protocol_of after.now)) }
     ensures typed { OnOk result
         (HasInterface (signature_of setting.now.sig.now) setting.now.interface.now (protocol_of after.now)) }
 {
+    match step {
+        Step::Plain { .. } => Ok(()),
+        Step::Rev { .. } | Step::Invoke { .. } => check_type(alloc, setting, after),
+    }
+}
+
+// Checks both.
+fn check_whole(
+    alloc: Global,
+    setting: &Setting<'_>,
+    step: &Step,
+    after: &Proto,
+) -> Result<(), StepFault>
+    requires { IsPlain (step_of step.now) →
+        HasInterface (signature_of setting.now.sig.now) setting.now.interface.now (protocol_of after.now) }
+    ensures test { AnswersTest result (whole_refusal (setting_of setting.now) (protocol_of after.now)) }
+    ensures fits { OnOk result (WholeFits (setting_of setting.now) (protocol_of after.now)) }
+{
     check_extent(after)?;
-    check_type(alloc, setting, after)
+    check_type_after(alloc, setting, step, after)
 }
 
 // The term, if it passes them.
-fn accepted(alloc: Global, setting: &Setting<'_>, after: Proto) -> Result<Proto, StepFault>
+fn accepted(
+    alloc: Global,
+    setting: &Setting<'_>,
+    step: &Step,
+    after: Proto,
+) -> Result<Proto, StepFault>
+    requires { IsPlain (step_of step.now) →
+        HasInterface (signature_of setting.now.sig.now) setting.now.interface.now (protocol_of after) }
     ensures test { AnswersTest result (whole_refusal (setting_of setting.now) (protocol_of after)) }
     ensures same { IfOk result (λ whole. protocol_of whole ≡ protocol_of after) }
-    ensures kept { OnOk result (KeepsLimits (protocol_of after)) }
-    ensures typed { OnOk result
-        (HasInterface (signature_of setting.now.sig.now) setting.now.interface.now (protocol_of after)) }
+    ensures fits { IfOk result (λ whole. WholeFits (setting_of setting.now) (protocol_of whole)) }
 {
-    match check_whole(alloc, setting, &after) {
+    match check_whole(alloc, setting, step, &after) {
         Ok(()) => Ok(after),
         Err(fault) => Err(fault),
     }
@@ -111,14 +140,12 @@ pub fn take_step(
     before: &Proto,
     step: &Step,
 ) -> Result<Proto, StepFault>
-    requires whole { WholeFits (length setting.now.sig.now) (protocol_of before.now) }
+    requires whole { WholeFits (setting_of setting.now) (protocol_of before.now) }
     requires term { StepFits (step_of step.now) }
     ensures steps { StepsFrom result (setting_of setting.now) (protocol_of before.now) (step_of step.now) }
-    ensures fits { IfOk result (λ after. WholeFits (length setting.now.sig.now) (protocol_of after)) }
-    ensures typed { IfOk result (λ after.
-        HasInterface (signature_of setting.now.sig.now) setting.now.interface.now (protocol_of after)) }
+    ensures fits { IfOk result (λ after. WholeFits (setting_of setting.now) (protocol_of after)) }
 {
     let part = new_part(alloc, setting, before, step)?;
     let after = replaced(alloc, before, path_of(step), part)?;
-    accepted(alloc, setting, after)
+    accepted(alloc, setting, step, after)
 }

@@ -96,8 +96,8 @@ fn trail_across(
     right: &Proto,
     steps: &[Step],
 ) -> Result<Trail, ScriptFault>
-    requires trail { IsTrail (length setting.now.sig.now) lefts }
-    requires whole { WholeFits (length setting.now.sig.now) (protocol_of right.now) }
+    requires trail { IsTrail (setting_of setting.now) lefts }
+    requires whole { WholeFits (setting_of setting.now) (protocol_of right.now) }
     requires steps { All (λ step. StepFits (step_of step)) steps.now }
     requires short { neighbours ≤ limit_number ChainLimit }
     ensures test { AnswersScripts result (wrong_on_right (setting_of setting.now) neighbours
@@ -105,7 +105,7 @@ fn trail_across(
     ensures first { IfOk result (λ trail. trail_first trail ≡ trail_first lefts) }
     ensures links { IfOk result (λ trail. trail_links trail ≡ trail_links lefts ++ turned_links (protocol_of right.now)
         (links_of_script (setting_of setting.now) (protocol_of right.now) (map step_of steps.now))) }
-    ensures trail { IfOk result (λ trail. IsTrail (length setting.now.sig.now) trail) }
+    ensures trail { IfOk result (λ trail. IsTrail (setting_of setting.now) trail) }
     ensures short { OnOk result (neighbours + neighbour_count (links_of_script (setting_of setting.now)
         (protocol_of right.now) (map step_of steps.now)) ≤ limit_number ChainLimit) }
 {
@@ -134,7 +134,7 @@ fn trail_between(
     ensures first { IfOk result (λ trail. trail_first trail ≡ protocol_of left.now) }
     ensures links { IfOk result (λ trail. trail_links trail ≡ (chain_of_scripts (setting_of setting.now)
         (theorem_between theorem.now (protocol_of left.now) (protocol_of right.now))).links) }
-    ensures trail { IfOk result (λ trail. IsTrail (length setting.now.sig.now) trail) }
+    ensures trail { IfOk result (λ trail. IsTrail (setting_of setting.now) trail) }
     ensures short { IfOk result (λ trail. neighbours + neighbour_count (trail_links trail) ≤ limit_number ChainLimit) }
 {
     let steps = theorem.left_steps.as_slice();

@@ -1,9 +1,10 @@
 //! Trails: the whole terms that one side has come through.
 
-ghost use Rattle.std.specs.Prelude.{◌≡◌, [], ◌∷◌, ◌++◌, All, IfOk, OnOk, ℕ, suc, length};
+ghost use Rattle.std.specs.Prelude.{◌≡◌, [], ◌∷◌, ◌++◌, All, IfOk, OnOk, suc, length};
 ghost use Rattle.ipdl_chain.specs.Chains.{turned_links};
 ghost use Rattle.ipdl_chain.specs.Views.{mark_of};
 ghost use Rattle.ipdl_script.specs.Fitting.{WholeFits};
+ghost use Rattle.ipdl_script.specs.Steps.{Setting};
 ghost use Rattle.ipdl_script.specs.Trails.{IsTrail, back_links, trail_end, trail_first, trail_links};
 ghost use Rattle.ipdl_term.specs.Views.{protocol_of};
 
@@ -24,7 +25,7 @@ pub(crate) struct Trail {
 pub(crate) fn start(alloc: Global, from: &Proto) -> Result<Trail, NoMemory>
     ensures first { IfOk result (λ trail. trail_first trail ≡ protocol_of from.now) }
     ensures links { IfOk result (λ trail. trail_links trail ≡ []) }
-    ensures trail { (symbols : ℕ) → WholeFits symbols (protocol_of from.now) → IfOk result (λ trail. IsTrail symbols trail) }
+    ensures trail { (x : Setting) → WholeFits x (protocol_of from.now) → IfOk result (λ trail. IsTrail x trail) }
 {
     let mut terms = List::empty(alloc);
     terms.push(copy_proto(alloc, from)?)?;
@@ -39,7 +40,7 @@ impl Trail {
     pub(crate) fn end(&self) -> &Proto
         requires { length self.now.terms ≡ suc (length self.now.marks) }
         ensures end { protocol_of result.now ≡ trail_end self.now }
-        ensures fits { (symbols : ℕ) → IsTrail symbols self.now → WholeFits symbols (protocol_of result.now) }
+        ensures fits { (x : Setting) → IsTrail x self.now → WholeFits x (protocol_of result.now) }
     {
         &self.terms.as_slice()[self.marks.as_slice().len()]
     }
@@ -51,7 +52,7 @@ impl Trail {
         ensures first { OnOk result (trail_first self.new ≡ trail_first self.old) }
         ensures links { OnOk result (trail_links self.new
             ≡ trail_links self.old ++ record { mark = mark_of mark; term = protocol_of term } ∷ []) }
-        ensures trail { (symbols : ℕ) → IsTrail symbols self.old → WholeFits symbols (protocol_of term) → OnOk result (IsTrail symbols self.new) }
+        ensures trail { (x : Setting) → IsTrail x self.old → WholeFits x (protocol_of term) → OnOk result (IsTrail x self.new) }
     {
         self.terms.push(term)?;
         self.marks.push(mark)?;
@@ -65,8 +66,8 @@ fn push_back(trail: &mut Trail, mut terms: Vec<Proto>, mut marks: Vec<Mark>) -> 
     requires paired { length terms.items ≡ length marks.items }
     ensures first { OnOk result (trail_first trail.new ≡ trail_first trail.old) }
     ensures links { OnOk result (trail_links trail.new ≡ trail_links trail.old ++ back_links marks.items terms.items) }
-    ensures trail { (symbols : ℕ) → IsTrail symbols trail.old →
-        All (λ term. WholeFits symbols (protocol_of term)) terms.items → OnOk result (IsTrail symbols trail.new) }
+    ensures trail { (x : Setting) → IsTrail x trail.old →
+        All (λ term. WholeFits x (protocol_of term)) terms.items → OnOk result (IsTrail x trail.new) }
 {
     while let Some(mark) = marks.pop() {
         let Some(term) = terms.pop() else {
@@ -84,8 +85,8 @@ pub(crate) fn turned_back(lefts: Trail, rights: Trail) -> Result<Trail, NoMemory
     ensures first { IfOk result (λ trail. trail_first trail ≡ trail_first lefts) }
     ensures links { IfOk result (λ trail. trail_links trail
         ≡ trail_links lefts ++ turned_links (trail_first rights) (trail_links rights)) }
-    ensures trail { (symbols : ℕ) → IsTrail symbols lefts → IsTrail symbols rights →
-        IfOk result (λ trail. IsTrail symbols trail) }
+    ensures trail { (x : Setting) → IsTrail x lefts → IsTrail x rights →
+        IfOk result (λ trail. IsTrail x trail) }
 {
     let Trail { terms, marks } = rights;
     let mut terms = terms.into_vec();

@@ -1,7 +1,6 @@
 use Rattle.std.proofs.Common.{◌≡◌, ℕ, ◌+◌, ◌≤◌, length, map, sym, ap, ap₂, ◌∙◌, subst, arith, None}
 use Rattle.std.specs.Prelude.{OnOk}
 use Rattle.ipdl_chain.specs.Chains.{neighbour_count}
-use Rattle.ipdl_script.proofs.Fits.{typed_fits}
 use Rattle.ipdl_script.proofs.Theorems.{length-trail_links, both_short_if_made, answers_first_wrong}
 use Rattle.ipdl_script.specs.Ready.{theorem_between}
 use Rattle.ipdl_script.specs.Scripts.{left_side, links_of_script, wrong_in_script, left_links}
@@ -14,11 +13,11 @@ use Rattle.ipdl_script.proofs.theorem.trail_between.Goals as goal
 
 pub followed-requires-clause-whole : goal.followed-requires-clause-whole
 followed-requires-clause-whole c =
-    typed_fits c.args.setting.now.sig.now c.args.setting.now.interface.now (protocol_of c.args.left.now) c.requires.sides.left_limits c.requires.sides.left_typed
+    record { limits = c.requires.sides.left_limits; typed = c.requires.sides.left_typed }
 
 pub trail_across-requires-clause-whole : goal.trail_across-requires-clause-whole
 trail_across-requires-clause-whole c =
-    typed_fits c.args.setting.now.sig.now c.args.setting.now.interface.now (protocol_of c.args.right.now) c.requires.sides.right_limits c.requires.sides.right_typed
+    record { limits = c.requires.sides.right_limits; typed = c.requires.sides.right_typed }
 
 pub trail_across-requires-clause-short : goal.trail_across-requires-clause-short
 trail_across-requires-clause-short c =

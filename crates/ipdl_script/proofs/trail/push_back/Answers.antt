@@ -20,8 +20,8 @@ loop-mark-preserved c =
       links =
           back_step (trail_links c.loop-mark.trail) (trail_links c.push.new.self) _ c.loop-mark.marks.items c.pop.new.self.items c.loop-mark.terms.items c.pop-in-Some.new.self.items
           c.in-Some.mark c.in-Some-pop.term _ m t left c.turned.ensures c.in_ok-push.ensures.links c.loop-mark.invariant.links;
-      fit = λ symbols whole fit.
-          let held = c.loop-mark.invariant.fit symbols whole fit in
-          let parts = All-pop (λ term. WholeFits symbols (protocol_of term)) c.loop-mark.terms.items c.pop-in-Some.new.self.items (Some c.in-Some-pop.term) t held.1 in
-          (c.in_ok-push.ensures.trail symbols held.0 parts.1, parts.0);
+      fit = λ x whole fit.
+          let held = c.loop-mark.invariant.fit x whole fit in
+          let parts = All-pop (λ term. WholeFits x (protocol_of term)) c.loop-mark.terms.items c.pop-in-Some.new.self.items (Some c.in-Some-pop.term) t held.1 in
+          (c.in_ok-push.ensures.trail x held.0 parts.1, parts.0);
     }

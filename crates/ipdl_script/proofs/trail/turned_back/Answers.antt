@@ -18,10 +18,10 @@ returns-clause-links c =
     (ap₂ back_links marks terms ∙ back_links-take c.args.rights.marks c.args.rights.terms ∙ sym (back_links-turned c.args.rights.marks c.args.rights.terms))
 
 pub returns-clause-trail : goal.returns-clause-trail
-returns-clause-trail c = λ symbols left right.
+returns-clause-trail c = λ x left right.
     let marks : c.into_vec-marks.result.items ≡ c.args.rights.marks = c.into_vec-marks.ensures in
     let len : c.len.result ≡ length c.into_vec-marks.result.items = search rules in
     let terms : c.truncate.new.self.items ≡ take (length c.args.rights.marks) c.args.rights.terms =
     c.truncate.ensures.items ∙ ap₂ take (len ∙ ap length marks) c.into_vec-terms.ensures in
-    let Fit : Proto → Type 0 = λ term. WholeFits symbols (protocol_of term) in
-    c.in_ok-push_back.ensures.trail symbols left (All-same Fit _ _ terms (All-take Fit (length c.args.rights.marks) c.args.rights.terms right.fit))
+    let Fit : Proto → Type 0 = λ term. WholeFits x (protocol_of term) in
+    c.in_ok-push_back.ensures.trail x left (All-same Fit _ _ terms (All-take Fit (length c.args.rights.marks) c.args.rights.terms right.fit))

@@ -13,9 +13,9 @@ returns-clause-end c =
     ap protocol_of at ∙ end_is c.args.self.now.marks c.args.self.now.terms (length c.args.self.now.marks) t c.requires refl
 
 pub returns-clause-fits : goal.returns-clause-fits
-returns-clause-fits c = λ symbols trail.
+returns-clause-fits c = λ x trail.
     let t = c.index-as_slice-as_slice.result in
     let at : t ≡ get_or c.args.self.now.terms (length c.args.self.now.marks) t =
     c.index-as_slice-as_slice.is ∙ ap₂ (λ terms marks. get_or terms (length marks) t) c.as_slice.ensures c.as_slice-2.ensures in
-    let Fit : Proto → Type 0 = λ term. WholeFits symbols (protocol_of term) in
+    let Fit : Proto → Type 0 = λ term. WholeFits x (protocol_of term) in
     subst Fit (sym at) (trail.fit (length c.args.self.now.marks) t (omega (arith, c.requires)))

@@ -22,3 +22,17 @@ pub added : (first second old mid new : List Channel) → ((c : Channel) → has
     (c : Channel) → has new c ≡ (has (first ++ second) c || has old c)
 added first second old mid new m n c =
     both (has first c) (has second c) (has old c) (has mid c) (has new c) (m c) (n c) ∙ ap (λ b. b || has old c) (sym (has-append first second c))
+
+later_too : (p q old : Bool) → (q || (p || old)) ≡ ((p || q) || old)
+later_too true true old = refl
+later_too true false old = refl
+later_too false true old = refl
+later_too false false old = refl
+
+-- the names of the first of some terms were added: with those of the rest they are as many as before
+pub first_added : (first rest old new all : List Channel) (c : Channel) → has new c ≡ (has first c || has old c) → (has (first ++ rest) c || has old c) ≡ has all c → (has rest c || has new c) ≡ has all c
+first_added first rest old new all c added before =
+    ap (λ b. has rest c || b) added
+    ∙ later_too (has first c) (has rest c) (has old c)
+    ∙ ap (λ b. b || has old c) (sym (has-append first rest c))
+    ∙ before

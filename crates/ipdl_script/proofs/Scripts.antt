@@ -1,20 +1,22 @@
 -- One step in a script: it is by a rule where it stands, and adds one neighbour.
-use Rattle.std.proofs.Common.{◌≡◌, ℕ, suc, ◌+◌, ◌≤◌, List, ◌∷◌, ◌++◌, length, Result, Some, None, refl, sym, ap, ap₂, ◌∙◌, subst, add-one, append_assoc, arith}
+use Rattle.std.proofs.Common.{◌≡◌, ℕ, suc, ◌+◌, ◌≤◌, List, ◌∷◌, ◌++◌, length, Some, None, refl, sym, ap, ap₂, ◌∙◌, subst, add-one, append_assoc, arith}
+use Rattle.std.proofs.lemmas.List.{length-append}
 use Rattle.std.specs.Option.{option_or}
 use Rattle.std.specs.Prelude.{option_map}
 use Rattle.ipdl_base.specs.Limits.{limit_number}
 use Rattle.ipdl_base.specs.declared.limit.Limit.TheVariants.{Chain as ChainLimit}
-use Rattle.ipdl_chain.specs.Chains.{Link, last_of, neighbour_count}
-use Rattle.ipdl_script.proofs.Refusals.{told_first, told_later, none_told}
+use Rattle.ipdl_chain.specs.Chains.{Link, last_of}
+use Rattle.ipdl_script.proofs.Refusals.{told_first, told_later, none_told, wrong_first}
 use Rattle.ipdl_script.proofs.StepLaws.{stands_step}
 use Rattle.ipdl_script.proofs.StepTests.{limit_test-kept}
 use Rattle.ipdl_script.proofs.WholeTerms.{limit_test-over}
 use Rattle.ipdl_script.proofs.TrailLists.{last_of-push}
 use Rattle.ipdl_script.specs.Scripts.{Side, wrong_step, links_of_step, links_of_script, count_after, chain_test, refusal_in_script, wrong_in_script}
 use Rattle.ipdl_script.specs.Steps.{Setting, over, limit_test, step_refusal, after_step}
-use Rattle.ipdl_script.specs.TestGroups.{AnswersScripts}
-use Rattle.ipdl_script.specs.Trails.{IsByRule}
+use Rattle.ipdl_script.specs.Answers.{TellsWrong}
+use Rattle.ipdl_script.specs.Trails.{IsByRule, IsTrail, trail_first, trail_links, trail_end}
 use Rattle.ipdl_script.specs.declared.fault.ScriptFault.{ScriptFault}
+use Rattle.ipdl_script.specs.declared.trail.Trail.{Trail}
 use Rattle.ipdl_term.specs.Steps.{Step, plain, rev, invoke}
 use Rattle.ipdl_term.specs.Terms.{Protocol}
 
@@ -46,7 +48,7 @@ end-by_rule first old links (rev place rule term) after h e = ap (last_of first)
 end-by_rule first old links (invoke place name direction pairs) after h e = absurd h
 
 module _ (x : Setting) (n : ℕ) (before middle : Protocol) (step : Step) (rest : List Step) (by_rule : IsByRule step) (there : middle ≡ after_step x before step) where
-  wrong_later-is : (side : Side) (number : ℕ) → refusal_in_script x n before step ≡ None →
+  pub wrong_later-is : (side : Side) (number : ℕ) → refusal_in_script x n before step ≡ None →
       wrong_in_script x n side number before (step ∷ rest) ≡ wrong_in_script x (n + 1) side (number + 1) middle rest
   wrong_later-is side number passed =
       let after = after_step x before step in
@@ -55,24 +57,46 @@ module _ (x : Setting) (n : ℕ) (before middle : Protocol) (step : Step) (rest 
       ∙ ap (λ k. wrong_in_script x (n + 1) side k after rest) (sym (add-one number))
       ∙ ap (λ p. wrong_in_script x (n + 1) side (number + 1) p rest) (sym there)
 
-  pub answers_on : {X : Type 0} (r : Result X ScriptFault) (side : Side) (number : ℕ) → refusal_in_script x n before step ≡ None →
-      AnswersScripts r (wrong_in_script x (n + 1) side (number + 1) middle rest) → AnswersScripts r (wrong_in_script x n side number before (step ∷ rest))
-  answers_on r side number passed h = subst (AnswersScripts r) (sym (wrong_later-is side number passed)) h
-
   pub links_on : (old mid new : List Link) → mid ≡ old ++ links_of_step step (after_step x before step) → new ≡ mid ++ links_of_script x middle rest →
       new ≡ old ++ links_of_script x before (step ∷ rest)
   links_on old mid new m h =
       let after = after_step x before step in
       h ∙ ap₂ (λ links p. links ++ links_of_script x p rest) m there ∙ append_assoc old (links_of_step step after) (links_of_script x after rest)
 
-  one_more : (s : Step) (after : Protocol) (links : List Link) → IsByRule s → length (links_of_step s after ++ links) ≡ length links + 1
-  one_more (plain place rule) after links h = omega arith
-  one_more (rev place rule term) after links h = omega arith
-  one_more (invoke place name direction pairs) after links h = absurd h
+-- ---- the steps so far
 
-  pub short_on : n + 1 + neighbour_count (links_of_script x middle rest) ≤ limit_number ChainLimit → n + neighbour_count (links_of_script x before (step ∷ rest)) ≤ limit_number ChainLimit
-  short_on h =
+module _ (x : Setting) (n : ℕ) (side : Side) (from : Protocol) (steps : List Step) where
+  -- The steps before the rest have led to the end of the trail. So many neighbours there are then, and the first step of
+  -- the rest has this number.
+  pub record IsFollowed (trail : Trail) (so_far number : ℕ) (rest : List Step) : Type 0 where
+    pub fits : IsTrail x trail
+    pub first : trail_first trail ≡ from
+    pub links : trail_links trail ++ links_of_script x (trail_end trail) rest ≡ links_of_script x from steps
+    pub wrong : wrong_in_script x n side 1 from steps ≡ wrong_in_script x so_far side number (trail_end trail) rest
+    pub count : so_far ≡ n + length (trail_links trail)
+    pub short : so_far ≤ limit_number ChainLimit
+    pub numbered : number ≤ so_far + 1
+
+  pub followed_on : (old new : Trail) (so_far number : ℕ) (step : Step) (rest : List Step) → IsFollowed old so_far number (step ∷ rest) → refusal_in_script x so_far (trail_end old) step ≡ None → IsByRule step →
+      trail_first new ≡ trail_first old → trail_links new ≡ trail_links old ++ links_of_step step (after_step x (trail_end old) step) → IsTrail x new → so_far + 1 ≤ limit_number ChainLimit →
+      IsFollowed new (so_far + 1) (number + 1) rest
+  followed_on old new so_far number step rest h passed by_rule first links trail short =
+      let before = trail_end old in
       let after = after_step x before step in
-      let count = one_more step after (links_of_script x after rest) by_rule in
-      let same = ap (λ p. length (links_of_script x p rest)) there in
-      omega (arith, count, same, h)
+      let there : trail_end new ≡ after = end-by_rule (trail_first new) (trail_links old) (trail_links new) step after by_rule links in
+      let longer = ap length links ∙ length-append (trail_links old) (links_of_step step after) in
+      let one = count_after-by_rule (length (trail_links old)) step after by_rule in
+      record {
+        fits = trail;
+        first = first ∙ h.first;
+        links = links_on x so_far before (trail_end new) step rest by_rule there (trail_links old) (trail_links new) (trail_links new ++ links_of_script x (trail_end new) rest) links refl ∙ h.links;
+        wrong = h.wrong ∙ wrong_later-is x so_far before (trail_end new) step rest by_rule there side number passed;
+        count = omega (arith, h.count, longer, one);
+        short = short;
+        numbered = omega (arith, h.numbered);
+      }
+
+  -- what is told of the next step is told of the script
+  pub told_of_next : (trail : Trail) (so_far number : ℕ) (step : Step) (rest : List Step) (fault : ScriptFault) → IsFollowed trail so_far number (step ∷ rest) →
+      TellsWrong fault (option_map (wrong_step side number) (refusal_in_script x so_far (trail_end trail) step)) → TellsWrong fault (wrong_in_script x n side 1 from steps)
+  told_of_next trail so_far number step rest fault h told = subst (TellsWrong fault) (sym h.wrong) (wrong_first fault _ _ told)

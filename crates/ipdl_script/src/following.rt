@@ -101,47 +101,6 @@ fn wrong_at(side: Side, step: u32, fault: StepFault) -> ScriptFault
     }
 }
 
-// Takes the steps in order, of which the first has this number, and where there are so many
-// neighbours before it.
-fn follow(
-    alloc: Global,
-    setting: &Setting<'_>,
-    neighbours: u64,
-    side: Side,
-    number: u32,
-    trail: &mut Trail,
-    steps: &[Step],
-) -> Result<(), ScriptFault>
-    requires trail { IsTrail (setting_of setting.now) trail.old }
-    requires steps { All (λ step. StepFits (step_of step)) steps.now }
-    requires short { neighbours ≤ limit_number Limit.Chain }
-    requires number { number ≤ neighbours + 1 }
-    ensures test { AnswersScripts result (wrong_in_script (setting_of setting.now) neighbours (side_of side) number
-        (trail_end trail.old) (map step_of steps.now)) }
-    ensures first { OnOk result (trail_first trail.new ≡ trail_first trail.old) }
-    ensures links { OnOk result (trail_links trail.new ≡ trail_links trail.old
-        ++ links_of_script (setting_of setting.now) (trail_end trail.old) (map step_of steps.now)) }
-    ensures trail { OnOk result (IsTrail (setting_of setting.now) trail.new) }
-    ensures short { OnOk result (neighbours + neighbour_count (links_of_script (setting_of setting.now)
-        (trail_end trail.old) (map step_of steps.now)) ≤ limit_number Limit.Chain) }
-{
-    let Some((step, rest)) = steps.split_first() else {
-        return Ok(());
-    };
-    match push_step(alloc, setting, neighbours, &mut *trail, step) {
-        Ok(()) => follow(
-            alloc,
-            setting,
-            neighbours + 1,
-            side,
-            number + 1,
-            trail,
-            rest,
-        ),
-        Err(fault) => Err(wrong_at(side, number, fault)),
-    }
-}
-
 // The trail of the steps of a side from its protocol, where there are so many neighbours before it.
 pub(crate) fn followed(
     alloc: Global,
@@ -164,6 +123,16 @@ pub(crate) fn followed(
         (protocol_of from.now) (map step_of steps.now)) ≤ limit_number Limit.Chain) }
 {
     let mut trail = start(alloc, from)?;
-    follow(alloc, setting, neighbours, side, 1, &mut trail, steps)?;
+    let mut so_far = neighbours;
+    let mut number = 1;
+    for step in steps {
+        match push_step(alloc, setting, so_far, &mut trail, step) {
+            Ok(()) => {
+                so_far += 1;
+                number += 1;
+            }
+            Err(fault) => return Err(wrong_at(side, number, fault)),
+        }
+    }
     Ok(trail)
 }

@@ -39,24 +39,13 @@ fn add_hidden(alloc: Global, names: &mut Names, proto: &Proto) -> Result<(), NoM
     }
 }
 
-// Adds those of several.
-fn add_hidden_in(alloc: Global, names: &mut Names, terms: &[Proto]) -> Result<(), NoMemory>
-    ensures { OnOk result ((c : Channel) → has names.new c ≡ (has (hidden_in terms.now) c || has names.old c)) }
-{
-    match terms.split_first() {
-        Some((term, rest)) => {
-            add_hidden(alloc, &mut *names, term)?;
-            add_hidden_in(alloc, names, rest)
-        }
-        None => Ok(()),
-    }
-}
-
 // The channels that are hidden in some of the terms.
 pub(crate) fn hidden_in(alloc: Global, terms: &[Proto]) -> Result<Names, NoMemory>
     ensures { IfOk result (λ names. SameSet names (hidden_in terms.now)) }
 {
     let mut names = Names::empty(alloc);
-    add_hidden_in(alloc, &mut names, terms)?;
+    for term in terms {
+        add_hidden(alloc, &mut names, term)?;
+    }
     Ok(names)
 }

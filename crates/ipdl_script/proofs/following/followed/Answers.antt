@@ -1,4 +1,52 @@
+use Rattle.std.proofs.Common.{◌≡◌, ◌+◌, ◌++◌, ◌∷◌, List, length, map, drop, sym, ap, ap₂, ◌∙◌, subst, arith}
+use Rattle.std.proofs.lemmas.List.{at_drop_more}
+use Rattle.ipdl_chain.specs.Chains.{last_of}
+use Rattle.ipdl_script.proofs.Scripts.{IsFollowed, followed_on, told_of_next}
+use Rattle.ipdl_script.specs.Scripts.{links_of_script, wrong_in_script}
+use Rattle.ipdl_script.specs.Views.{setting_of, side_of}
+use Rattle.ipdl_term.specs.Steps.{Step, step_of}
+use Rattle.ipdl_term.specs.Views.{protocol_of}
 use Rattle.ipdl_script.proofs.following.followed.Goals as goal
 
-pub follow-requires-clause-trail : goal.follow-requires-clause-trail
-follow-requires-clause-trail c = c.in_ok-trail.ensures.trail _ c.requires.whole
+pub loop-step-init : goal.loop-step-init
+loop-step-init c =
+    let x = setting_of c.args.setting.now in
+    let steps = map step_of c.args.steps.now in
+    let links = c.in_ok-trail.ensures.links in
+    let first = c.in_ok-trail.ensures.first in
+    let none = ap length links in
+    record {
+      fits = c.in_ok-trail.ensures.trail x c.requires.whole;
+      first = first;
+      links = ap₂ (λ ls f. ls ++ links_of_script x (last_of f ls) steps) links first;
+      wrong = sym (ap₂ (λ ls f. wrong_in_script x c.args.neighbours (side_of c.args.side) 1 (last_of f ls) steps) links first);
+      count = omega (arith, none);
+      short = c.requires.short;
+      numbered = omega arith;
+    }
+
+pub returns-in-Err-clause-test : goal.returns-in-Err-clause-test
+returns-in-Err-clause-test c =
+    let x = setting_of c.args.setting.now in
+    let steps = c.args.steps.now in
+    let i = c.loop-step.step-index in
+    let step = c.step-item.result in
+    let rest = map step_of (drop (i + 1) steps) in
+    let split : map step_of (drop i steps) ≡ step_of step ∷ rest = at_drop_more (map step_of) steps i step c.loop-step-test.true ∙ ap (λ s. step_of s ∷ rest) (sym c.step-item.is) in
+    let Followed : List Step → Type 0 =
+    λ later. IsFollowed x c.args.neighbours (side_of c.args.side) (protocol_of c.args.from.now) (map step_of steps) c.loop-step.trail c.loop-step.so_far c.loop-step.number later in
+    told_of_next x c.args.neighbours (side_of c.args.side) (protocol_of c.args.from.now) (map step_of steps) c.loop-step.trail c.loop-step.so_far c.loop-step.number (step_of step) rest c.wrong_at.result
+    (subst Followed split c.loop-step.invariant) (c.wrong_at.ensures _ c.in-Err.ensures.test)
+
+pub loop-step-preserved : goal.loop-step-preserved
+loop-step-preserved c =
+    let x = setting_of c.args.setting.now in
+    let steps = c.args.steps.now in
+    let i = c.loop-step.step-index in
+    let step = c.step-item.result in
+    let rest = map step_of (drop (i + 1) steps) in
+    let split : map step_of (drop i steps) ≡ step_of step ∷ rest = at_drop_more (map step_of) steps i step c.loop-step-test.true ∙ ap (λ s. step_of s ∷ rest) (sym c.step-item.is) in
+    let Followed : List Step → Type 0 =
+    λ later. IsFollowed x c.args.neighbours (side_of c.args.side) (protocol_of c.args.from.now) (map step_of steps) c.loop-step.trail c.loop-step.so_far c.loop-step.number later in
+    followed_on x c.args.neighbours (side_of c.args.side) (protocol_of c.args.from.now) (map step_of steps) c.loop-step.trail c.push_step.new.trail c.loop-step.so_far c.loop-step.number (step_of step) rest
+    (subst Followed split c.loop-step.invariant) c.in-Ok.ensures.test c.in-Ok.ensures.by_rule c.in-Ok.ensures.first c.in-Ok.ensures.links c.in-Ok.ensures.trail c.in-Ok.ensures.short

@@ -1,0 +1,7 @@
+use Rattle.std.proofs.Common.{sym, ◌∙◌}
+use Rattle.ipdl_rules_r.proofs.Found.{is_one}
+use Rattle.ipdl_rules_r.proofs.applying.is_one.Goals as goal
+
+pub returns-then-width-eq1 : goal.returns-then-width-eq1
+returns-then-width-eq1 c =
+    is_one c.args.bits.now c.value.result (sym c.width.ensures.value ∙ c.if-width-eq1.true) c.value.ensures

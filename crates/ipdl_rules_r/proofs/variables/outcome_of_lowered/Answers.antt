@@ -1,0 +1,5 @@
+use Rattle.ipdl_rules_r.proofs.Rewritten.{outcome_of_lowered}
+use Rattle.ipdl_rules_r.proofs.variables.outcome_of_lowered.Goals as goal
+
+pub returns : goal.returns
+returns c = outcome_of_lowered

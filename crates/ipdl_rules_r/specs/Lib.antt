@@ -1,0 +1,12 @@
+pub mod Tables
+pub mod Instances
+pub mod Expressions
+pub mod Told
+pub mod WorkedExpressions
+pub mod Matching
+pub mod SameTotals
+pub mod Room
+pub mod Weights
+pub mod RightSides
+pub mod Answers
+pub mod Worked

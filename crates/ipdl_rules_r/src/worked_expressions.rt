@@ -1,0 +1,27 @@
+//! Worked rows of the rule that rewrites an expression: each is computed from the definitions. The
+//! functions do nothing, and their contracts are the rows.
+
+ghost use Rattle.std.specs.Prelude.{[], ◌∷◌};
+ghost use Rattle.ipdl_rules_r.specs.Expressions.{IsExpressionInstance};
+ghost use Rattle.ipdl_rules_r.specs.Worked.{symbols, v0, v1};
+ghost use Rattle.ipdl_rules_r.specs.WorkedExpressions.{cancelled, nothing_of, two_arms, two_binders};
+ghost use Rattle.ipdl_term.specs.Rules as R;
+
+/// `(xor x x)` is `#000000000000`, for an x of 12 bits and with no condition.
+pub fn cancelled_bits_are_zeros()
+    ensures { IsExpressionInstance symbols (12 ∷ []) [] (R.table 0 (nothing_of 12)) cancelled (nothing_of 12) }
+{}
+
+/// Variables that are zero in the arms around them. The inner one is so by the innermost condition,
+/// the outer one by both and not by the innermost alone; and three conditions are not there.
+pub fn variables_in_their_arms()
+    ensures inner { IsExpressionInstance symbols two_binders two_arms (R.table 1 (nothing_of 1)) v0 (nothing_of 1) }
+    ensures outer { IsExpressionInstance symbols two_binders two_arms (R.table 2 (nothing_of 2)) v1 (nothing_of 2) }
+    ensures innermost_alone { IsExpressionInstance symbols two_binders two_arms (R.table 1 (nothing_of 2)) v1 (nothing_of 2) → ⊥ }
+    ensures too_many { IsExpressionInstance symbols two_binders two_arms (R.table 3 (nothing_of 2)) v1 (nothing_of 2) → ⊥ }
+{}
+
+/// A rule for protocols makes nothing of an expression.
+pub fn no_rule_for_expressions()
+    ensures { IsExpressionInstance symbols [] [] R.comm (nothing_of 1) (nothing_of 1) → ⊥ }
+{}

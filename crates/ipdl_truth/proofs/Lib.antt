@@ -1,0 +1,9 @@
+pub mod Bits
+pub mod Variables
+pub mod TableValues
+pub mod Interpretations
+pub mod Answers
+pub mod Walks
+pub mod FreeValues
+pub mod Enumerations
+pub mod WorkedRows

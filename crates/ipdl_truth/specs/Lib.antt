@@ -1,0 +1,9 @@
+pub mod Abstract
+pub mod Agreement
+pub mod FreeVariables
+pub mod Questions
+pub mod Tables
+pub mod Valuations
+pub mod Views
+pub mod Weights
+pub mod Worked

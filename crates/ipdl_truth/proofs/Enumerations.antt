@@ -113,9 +113,6 @@ module _ (q : Question) where
   AgreeOn-same : (env others : List Value) → SameFree env others → AgreeOn q env → AgreeOn q others
   AgreeOn-same env others same agree = sym (left_same env others same) ∙ agree ∙ right_same env others same
 
-  Met : List Value → Type 0
-  Met env = Meets (tables_of q.sig) (reverse env) q.conditions
-
   Met-same : (env others : List Value) → SameFree env others → Meets (tables_of q.sig) (reverse env) q.conditions → Meets (tables_of q.sig) (reverse others) q.conditions
   Met-same env others same met = Meets-same (tables_of q.sig) (reverse env) (reverse others) q.conditions
       (λ n uses. same_variables env others same n

@@ -1,5 +1,5 @@
 -- The tables as an interpretation of their signature.
-use Rattle.std.proofs.Common.{◌≡◌, ℕ, zero, suc, ◌≤◌, List, [], ◌∷◌, ◌++◌, Bool, true, false, Option, Some, None, length, reverse, refl, sym, ap, ◌∙◌, subst, arith}
+use Rattle.std.proofs.Common.{◌≡◌, ℕ, zero, suc, List, [], ◌∷◌, ◌++◌, Bool, true, false, Option, Some, None, length, reverse, refl, sym, ap, ◌∙◌, subst, arith}
 use Rattle.std.specs.Prelude.{All, IfSome, find, slice_get, is_none, if◌then◌else◌}
 use Rattle.std.specs.Option.{option_or}
 use Rattle.std.proofs.lemmas.List.Folds.{find-append}
@@ -16,16 +16,6 @@ use Rattle.ipdl_truth.specs.Tables.{entries_of, function_of, tables_of}
 use Rattle.ipdl_typing.specs.Signatures.{symbol_of, signature_of}
 
 -- ---- the function of a symbol
-
-symbol_value-at : (J : Interpretation) (f : ℕ) (g : Function) (a : Value) → slice_get J f ≡ Some g → symbol_value J f a ≡ function_value g a
-symbol_value-at [] f g a is = cc
-symbol_value-at (h ∷ J) zero g a is = let e : h ≡ g = cc in ap (λ x. function_value x a) e
-symbol_value-at (h ∷ J) (suc f) g a is = symbol_value-at J f g a is
-
-symbol_value-none : (J : Interpretation) (f : ℕ) (a : Value) → length J ≤ f → symbol_value J f a ≡ []
-symbol_value-none [] f a past = refl
-symbol_value-none (h ∷ J) zero a past = absurd (omega arith)
-symbol_value-none (h ∷ J) (suc f) a past = symbol_value-none J f a (omega arith)
 
 -- the symbol of the number, as the tables have it
 pub tables-symbol_value : (symbols : List Symbol) (f : ℕ) (s : Symbol) (a : Value) → slice_get symbols f ≡ Some s → symbol_value (tables_of (signature_of symbols)) f a ≡ function_value (function_of (symbol_of s)) a

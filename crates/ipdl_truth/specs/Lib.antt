@@ -1,7 +1,9 @@
 pub mod Abstract
 pub mod Agreement
 pub mod FreeVariables
+pub mod Operators
 pub mod Questions
+pub mod Refusals
 pub mod Tables
 pub mod Valuations
 pub mod Views

@@ -1,24 +1,23 @@
 //! Whether two expressions have one value on all values of their variables.
 
 ghost use Rattle.std.specs.Prelude.{◌≡◌, ◌↔◌, ℕ, ◌^◌, ◌<◌, ◌≤◌, None, Some, List, IfOk, IfErr, length, map, reverse};
-ghost use Rattle.ipdl_term.specs.Sizes.{saturated};
 ghost use Rattle.ipdl_term.specs.Surroundings.{AreTests, condition_of};
 ghost use Rattle.ipdl_term.specs.Terms.{Value};
 ghost use Rattle.ipdl_term.specs.Typing.{HasWidth};
 ghost use Rattle.ipdl_term.specs.Views.{expression_of};
 ghost use Rattle.ipdl_truth.specs.Agreement.{AgreeEverywhere, DifferFirstAt, Tells};
 ghost use Rattle.ipdl_truth.specs.FreeVariables.{greatest_free_bits};
-ghost use Rattle.ipdl_truth.specs.Questions.{question_of, first_abstract, weight_of, free_bits};
+ghost use Rattle.ipdl_truth.specs.Questions.{question_of, free_bits};
+ghost use Rattle.ipdl_truth.specs.Refusals.{IsAbstract, IsLarge, IsTooWide};
 ghost use Rattle.ipdl_truth.specs.Views.{asked_of};
-ghost use Rattle.ipdl_truth.specs.Weights.{greatest_weight};
 ghost use Rattle.ipdl_typing.specs.Signatures.{signature_of};
 
 use crate::abstracts::first_abstract;
 use crate::enumeration::{first_difference, valuation};
 use crate::free_variables::{free_bits, free_variables};
-use crate::operators::nothing;
 use crate::question::Question;
 use crate::weights::weight_of;
+use crate::zeros::nothing;
 use ipdl_base::{Bits, List, NoMemory};
 use ipdl_sig::Sig;
 use ipdl_term::{Condition, Expr};
@@ -89,16 +88,11 @@ fn fault(question: &Question) -> Option<TruthFault>
     requires { length question.now.widths.now < 2 ^ 32 }
     ensures not_memory { result ≡ Some TruthFault.Memory → ⊥ }
     ensures abstracts { (symbol : ℕ) → (result ≡ Some (TruthFault.Abstract symbol))
-        ↔ (first_abstract (asked_of question.now) ≡ Some symbol) }
+        ↔ IsAbstract (asked_of question.now) symbol }
     ensures large { (bits : ℕ) → (result ≡ Some (TruthFault.Large bits))
-        ↔ ((first_abstract (asked_of question.now) ≡ None)
-        × (greatest_weight < weight_of (asked_of question.now))
-        × (bits ≡ saturated (weight_of (asked_of question.now)))) }
+        ↔ IsLarge (asked_of question.now) bits }
     ensures too_wide { (bits : ℕ) → (result ≡ Some (TruthFault.TooWide bits))
-        ↔ ((first_abstract (asked_of question.now) ≡ None)
-        × (weight_of (asked_of question.now) ≤ greatest_weight)
-        × (greatest_free_bits < free_bits (asked_of question.now))
-        × (bits ≡ free_bits (asked_of question.now))) }
+        ↔ IsTooWide (asked_of question.now) bits }
     ensures few { result ≡ None → free_bits (asked_of question.now) ≤ greatest_free_bits }
 {
     if let Some(symbol) = first_abstract(question) {
@@ -135,16 +129,11 @@ pub fn agree(
         (map condition_of conditions.now) }
     requires binders { length widths.now ≤ 4294967295 }
     ensures abstracts { let q = question_of sig.now widths.now left.now right.now conditions.now in
-        (symbol : ℕ) → (result ≡ Err (TruthFault.Abstract symbol))
-        ↔ (first_abstract q ≡ Some symbol) }
+        (symbol : ℕ) → (result ≡ Err (TruthFault.Abstract symbol)) ↔ IsAbstract q symbol }
     ensures large { let q = question_of sig.now widths.now left.now right.now conditions.now in
-        (bits : ℕ) → (result ≡ Err (TruthFault.Large bits))
-        ↔ ((first_abstract q ≡ None) × (greatest_weight < weight_of q)
-        × (bits ≡ saturated (weight_of q))) }
+        (bits : ℕ) → (result ≡ Err (TruthFault.Large bits)) ↔ IsLarge q bits }
     ensures too_wide { let q = question_of sig.now widths.now left.now right.now conditions.now in
-        (bits : ℕ) → (result ≡ Err (TruthFault.TooWide bits))
-        ↔ ((first_abstract q ≡ None) × (weight_of q ≤ greatest_weight)
-        × (greatest_free_bits < free_bits q) × (bits ≡ free_bits q)) }
+        (bits : ℕ) → (result ≡ Err (TruthFault.TooWide bits)) ↔ IsTooWide q bits }
     ensures same { let q = question_of sig.now widths.now left.now right.now conditions.now in
         IfOk result (λ answer. (answer ≡ Agreement.Same) ↔ AgreeEverywhere q) }
     ensures differ { let q = question_of sig.now widths.now left.now right.now conditions.now in

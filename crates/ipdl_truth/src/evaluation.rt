@@ -8,15 +8,14 @@ ghost use Rattle.ipdl_truth.specs.Abstract.{HasTablesOnly};
 ghost use Rattle.ipdl_truth.specs.Tables.{tables_of};
 ghost use Rattle.ipdl_typing.specs.Signatures.{signature_of};
 
-use crate::operators::{
-    concatenation, conjunction, equality, exclusive, nothing, segment, selection,
-};
-use crate::tables::symbol_value;
+use crate::operators::{over_one, over_two, selection};
+use crate::zeros::nothing;
 use ipdl_base::Bits;
 use ipdl_sig::Sig;
 use ipdl_term::Expr;
 
 // The value of a variable, and nothing where it has no binder.
+#[inline(never)]
 fn variable_value(env: &[Bits], number: u32) -> Bits
     ensures { result ≡ variable_value (reverse env.now) number }
 {
@@ -36,13 +35,12 @@ pub(crate) fn value_of(sig: &Sig, env: &[Bits], term: &Expr) -> Bits
         Expr::Lit(bits) => *bits,
         Expr::Var(number) => variable_value(env, *number),
         Expr::Outer(_) => nothing(),
-        Expr::Apply(number, e) => symbol_value(sig, *number, value_of(sig, env, e)),
-        Expr::Xor(a, b) => exclusive(value_of(sig, env, a), value_of(sig, env, b)),
-        Expr::And(a, b) => conjunction(value_of(sig, env, a), value_of(sig, env, b)),
-        Expr::Not(a) => value_of(sig, env, a).not(),
-        Expr::Cat(a, b) => concatenation(value_of(sig, env, a), value_of(sig, env, b)),
-        Expr::Cut(from, count, a) => segment(*from, *count, value_of(sig, env, a)),
-        Expr::Same(a, b) => equality(value_of(sig, env, a), value_of(sig, env, b)),
+        Expr::Apply(_, a) | Expr::Not(a) | Expr::Cut(_, _, a) => {
+            over_one(sig, term, value_of(sig, env, a))
+        }
+        Expr::Xor(a, b) | Expr::And(a, b) | Expr::Cat(a, b) | Expr::Same(a, b) => {
+            over_two(term, value_of(sig, env, a), value_of(sig, env, b))
+        }
         Expr::Mux(test, a, b) => selection(
             value_of(sig, env, test),
             value_of(sig, env, a),

@@ -16,6 +16,7 @@ mod tables;
 mod tests;
 mod weights;
 mod worked;
+mod zeros;
 
 pub use agreement::{Agreement, TruthFault, agree};
 pub use evaluation::eval_expr;

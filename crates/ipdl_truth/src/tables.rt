@@ -7,7 +7,7 @@ ghost use Rattle.ipdl_term.specs.Interpretations.{function_value, symbol_value, 
 ghost use Rattle.ipdl_truth.specs.Tables.{function_of, tables_of};
 ghost use Rattle.ipdl_typing.specs.Signatures.{symbol_of, signature_of};
 
-use crate::operators::{nothing, zeros};
+use crate::zeros::{nothing, zeros};
 use ipdl_base::Bits;
 use ipdl_sig::{Sig, Symbol};
 

@@ -4,6 +4,7 @@ ghost use Rattle.std.specs.Prelude.{◌≡◌, ◌+◌, reverse, slice_get, unwr
 ghost use Rattle.ipdl_term.specs.Sizes.{saturated};
 ghost use Rattle.ipdl_term.specs.Surroundings.{condition_of};
 ghost use Rattle.ipdl_term.specs.Views.{expression_of};
+ghost use Rattle.ipdl_truth.specs.Operators.{width_of_leaf, width_over_one, width_over_two};
 ghost use Rattle.ipdl_truth.specs.Questions.{tests_of, weight_of};
 ghost use Rattle.ipdl_truth.specs.Views.{asked_of};
 ghost use Rattle.ipdl_truth.specs.Weights.{weight, total_weight};
@@ -53,6 +54,64 @@ fn result_width(sig: &Sig, number: u32) -> u64
     }
 }
 
+// The weight of an expression with no operand.
+#[inline(never)]
+fn leaf(widths: &[u8], term: &Expr) -> Weight
+    ensures width { result.width ≡ width_of_leaf (reverse widths.now) (expression_of term.now) }
+    ensures sum { result.sum ≡ width_of_leaf (reverse widths.now) (expression_of term.now) }
+{
+    match term {
+        Expr::Lit(bits) => node(u64::from(bits.width()), 0),
+        Expr::Var(number) => node(variable_width(widths, *number), 0),
+        _ => node(0, 0),
+    }
+}
+
+// The weight of an operator over an operand of this weight.
+#[inline(never)]
+fn over_one(sig: &Sig, term: &Expr, a: Weight) -> Weight
+    ensures width { result.width ≡ width_over_one (signature_of sig.now) (expression_of term.now)
+        a.width }
+    ensures sum { result.sum ≡ saturated (width_over_one (signature_of sig.now)
+        (expression_of term.now) a.width + a.sum) }
+{
+    match term {
+        Expr::Apply(number, _) => node(result_width(sig, *number), a.sum),
+        Expr::Not(_) => node(a.width, a.sum),
+        Expr::Cut(_, count, _) => node(u64::from(*count), a.sum),
+        _ => node(0, a.sum),
+    }
+}
+
+// The weight of an operator over operands of these weights.
+#[inline(never)]
+fn over_two(term: &Expr, a: Weight, b: Weight) -> Weight
+    ensures width { result.width ≡ saturated (width_over_two (expression_of term.now) a.width
+        b.width) }
+    ensures sum { result.sum ≡ saturated (width_over_two (expression_of term.now) a.width b.width
+        + (a.sum + b.sum)) }
+{
+    let operands = a.sum.saturating_add(b.sum);
+    match term {
+        Expr::Xor(_, _) | Expr::And(_, _) => node(a.width, operands),
+        Expr::Cat(_, _) => node(a.width.saturating_add(b.width), operands),
+        Expr::Same(_, _) => node(1, operands),
+        _ => node(0, operands),
+    }
+}
+
+// The weight of a selection over these.
+#[inline(never)]
+fn over_three(test: Weight, a: Weight, b: Weight) -> Weight
+    ensures width { result.width ≡ a.width }
+    ensures sum { result.sum ≡ saturated (a.width + (test.sum + (a.sum + b.sum))) }
+{
+    node(
+        a.width,
+        test.sum.saturating_add(a.sum.saturating_add(b.sum)),
+    )
+}
+
 fn weigh(sig: &Sig, widths: &[u8], term: &Expr) -> Weight
     ensures width { result.width ≡ saturated
         (expression_width (signature_of sig.now) (reverse widths.now) (expression_of term.now)) }
@@ -60,39 +119,18 @@ fn weigh(sig: &Sig, widths: &[u8], term: &Expr) -> Weight
         (weight (signature_of sig.now) (reverse widths.now) (expression_of term.now)) }
 {
     match term {
-        Expr::Lit(bits) => node(u64::from(bits.width()), 0),
-        Expr::Var(number) => node(variable_width(widths, *number), 0),
-        Expr::Outer(_) => node(0, 0),
-        Expr::Apply(number, e) => node(result_width(sig, *number), weigh(sig, widths, e).sum),
-        Expr::Not(a) => {
-            let a = weigh(sig, widths, a);
-            node(a.width, a.sum)
+        Expr::Lit(_) | Expr::Var(_) | Expr::Outer(_) => leaf(widths, term),
+        Expr::Apply(_, a) | Expr::Not(a) | Expr::Cut(_, _, a) => {
+            over_one(sig, term, weigh(sig, widths, a))
         }
-        Expr::Cut(_, count, a) => node(u64::from(*count), weigh(sig, widths, a).sum),
-        Expr::Xor(a, b) | Expr::And(a, b) => {
-            let a = weigh(sig, widths, a);
-            let b = weigh(sig, widths, b);
-            node(a.width, a.sum.saturating_add(b.sum))
+        Expr::Xor(a, b) | Expr::And(a, b) | Expr::Cat(a, b) | Expr::Same(a, b) => {
+            over_two(term, weigh(sig, widths, a), weigh(sig, widths, b))
         }
-        Expr::Cat(a, b) => {
-            let a = weigh(sig, widths, a);
-            let b = weigh(sig, widths, b);
-            node(a.width.saturating_add(b.width), a.sum.saturating_add(b.sum))
-        }
-        Expr::Same(a, b) => {
-            let a = weigh(sig, widths, a);
-            let b = weigh(sig, widths, b);
-            node(1, a.sum.saturating_add(b.sum))
-        }
-        Expr::Mux(test, a, b) => {
-            let test = weigh(sig, widths, test);
-            let a = weigh(sig, widths, a);
-            let b = weigh(sig, widths, b);
-            node(
-                a.width,
-                test.sum.saturating_add(a.sum.saturating_add(b.sum)),
-            )
-        }
+        Expr::Mux(test, a, b) => over_three(
+            weigh(sig, widths, test),
+            weigh(sig, widths, a),
+            weigh(sig, widths, b),
+        ),
     }
 }
 

@@ -2,7 +2,7 @@ use Rattle.std.proofs.Common.{◌^◌, ◌<◌, ◌≤◌, subst, ◌∙◌}
 use Rattle.std.specs.Option.{SomeIff}
 use Rattle.ipdl_base.specs.Bits.{bits_of}
 use Rattle.ipdl_truth.proofs.Bits.{bits_of-zero}
-use Rattle.ipdl_truth.proofs.operators.zeros.Goals as goal
+use Rattle.ipdl_truth.proofs.zeros.zeros.Goals as goal
 
 pub returns : goal.returns
 returns c =

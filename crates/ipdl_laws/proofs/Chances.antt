@@ -3,10 +3,10 @@ use Rattle.std.proofs.Common.{◌≡◌, ℕ, ◌+◌, ◌-◌, ◌*◌, ◌^◌
 use mathlib.Core.Path.{fun_ext}
 use Rattle.ipdl_term.specs.Counts.{total}
 use Rattle.ipdl_term.specs.Interpretations.{Interpretation, chosen, evaluation}
-use Rattle.ipdl_term.specs.Reactions.{Outcome, with_bit, first_bits, with_tape, continued, reaction_outcome, reaction_coins}
+use Rattle.ipdl_term.specs.Reactions.{outcome_value, Outcome, with_bit, first_bits, with_tape, continued, reaction_outcome, reaction_coins}
 use Rattle.ipdl_term.specs.Terms.{Value, Reaction, returning, flipping, reading, branching, binding}
 use Rattle.ipdl_term.specs.Valuations.{Valuation}
-use Rattle.ipdl_laws.specs.ReactionTotals.{outcome_value, Weight, reaction_total, weight_by}
+use Rattle.ipdl_laws.specs.ReactionTotals.{Weight, reaction_total, weight_by}
 use Rattle.ipdl_laws.proofs.Totals.{total_equal, total-scale, total-const, total_append}
 
 -- where the first part is stuck so is the whole, on each of the 2 ^ n tapes of the second part
@@ -53,7 +53,7 @@ module _ (J : Interpretation) where
       rw e (h ((m - c) + j) ∙ rw (pow-add 2 (m - c) j) (omega arith))
 
   -- one of two outcomes on each tape
-  total-chosen : (v : Value) (n : ℕ) (a b : List Bool → Outcome) (test : Outcome → ℕ) (x y : ℕ) → total n (λ t. test (a t)) ≡ x → total n (λ t. test (b t)) ≡ y → total n (λ t. test (chosen v (a t) (b t) (b t))) ≡ chosen v x y y
+  pub total-chosen : (v : Value) (n : ℕ) (a b : List Bool → Outcome) (test : Outcome → ℕ) (x y : ℕ) → total n (λ t. test (a t)) ≡ x → total n (λ t. test (b t)) ≡ y → total n (λ t. test (chosen v (a t) (b t) (b t))) ≡ chosen v x y y
   total-chosen [] n a b test x y h k = k
   total-chosen (true ∷ []) n a b test x y h k = h
   total-chosen (false ∷ []) n a b test x y h k = k

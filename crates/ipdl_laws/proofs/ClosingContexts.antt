@@ -137,7 +137,7 @@ module _ (sig : Signature) (scope : Scope) (written : List Channel) (feed : Feed
 -- ---- interfaces
 
 -- the channels of the scope of ports are their names
-scope_of_names : (ports : List Port) (d : Channel) → is_some (scope_of ports d) ≡ has (port_names ports) d
+pub scope_of_names : (ports : List Port) (d : Channel) → is_some (scope_of ports d) ≡ has (port_names ports) d
 scope_of_names [] d = refl
 scope_of_names (port ∷ ports) d = go (scope_of ports d) refl (same_channel port.name d) refl (scope_of_names ports d)
   where

@@ -25,7 +25,7 @@ abbrev with_value : Channel → Option Value → Valuation → Valuation
 with_value c o p = λ d. if same_channel c d then o else p d
 
 -- counts that are computed to be two numbers
-unequal : (x y m n : ℕ) → x ≡ y → x ≡ m → y ≡ n → nat_eq m n ≡ false → ⊥
+pub unequal : (x y m n : ℕ) → x ≡ y → x ≡ m → y ≡ n → nat_eq m n ≡ false → ⊥
 unequal x y m n e h k l = let same : m ≡ n = sym h ∙ e ∙ k in absurd (grind (arith, nat_tests))
 
 -- the context that feeds a into i closes the interface

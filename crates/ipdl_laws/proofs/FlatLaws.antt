@@ -8,14 +8,13 @@ use mathlib.Core.Path.{fun_ext}
 use Rattle.ipdl_term.specs.Channels.{same_channel, has, AreDisjoint, outputs}
 use Rattle.ipdl_term.specs.Interpretations.{Signature, Interpretation}
 use Rattle.ipdl_term.specs.Protocols.{coins, written, after_rounds, solution, round, protocol_valuation}
-use Rattle.ipdl_term.specs.Reactions.{Outcome, reaction_outcome, reaction_coins}
+use Rattle.ipdl_term.specs.Reactions.{outcome_value, Outcome, reaction_outcome, reaction_coins}
 use Rattle.ipdl_term.specs.Terms.{Value, Channel, Reaction, Protocol, nil, assignment, parallel, hiding}
 use Rattle.ipdl_term.specs.Typing.{Scope, scope_with, IsTyped}
 use Rattle.ipdl_term.specs.Valuations.{Valuation, nothing, only, combined, taken_out, all_taken_out, LiesWithin}
 use Rattle.ipdl_term.specs.Variables.{first_number}
 use Rattle.ipdl_laws.specs.Alike.{IsMonotone}
-use Rattle.ipdl_laws.specs.Flat.{assignment_count, writer_number, Writers, no_writers, writers_within, writers_without, nodes_from, network, value_of, value_at, flat_round, after_flat_rounds, flat_written, written_by, flat_valuation}
-use Rattle.ipdl_laws.specs.ReactionTotals.{outcome_value}
+use Rattle.ipdl_term.specs.Networks.{assignment_count, writer_number, Writers, no_writers, writers_within, writers_without, nodes_from, network, value_of, value_at, flat_round, after_flat_rounds, flat_written, written_by, flat_valuation}
 use Rattle.ipdl_laws.proofs.FurtherBits.{outcome_value_of_coins, protocol_valuation_of_coins}
 use Rattle.ipdl_laws.proofs.Monotone.{WritesOnly-written, WritesOnly-round, WritesOnly-protocol_valuation, LiesWithin-round, IsMonotone-protocol_valuation, reaction_is_monotone}
 use Rattle.ipdl_laws.proofs.Numbers.{key, keys, length-keys, nat_eq_self, has-keys, has-keys_above, has-keys_add, AreDisjoint-keys, nat_eq_apart, is_some-writer_number, writer_number_none, writer_number_own}

@@ -7,10 +7,9 @@ use Rattle.ipdl_term.specs.Channels.{outputs}
 use Rattle.ipdl_term.specs.Counts.{total, one_if, History, is_history, history_count}
 use Rattle.ipdl_term.specs.Interpretations.{Interpretation, chosen, evaluation}
 use Rattle.ipdl_term.specs.Protocols.{coins, written, protocol_valuation}
-use Rattle.ipdl_term.specs.Reactions.{Outcome, with_bit, first_bits, with_tape, continued, reaction_outcome, reaction_coins}
+use Rattle.ipdl_term.specs.Reactions.{outcome_value, Outcome, with_bit, first_bits, with_tape, continued, reaction_outcome, reaction_coins}
 use Rattle.ipdl_term.specs.Terms.{Value, Channel, Reaction, returning, flipping, reading, branching, binding, Protocol, nil, assignment, parallel, hiding}
 use Rattle.ipdl_term.specs.Valuations.{Valuation, nothing, all_taken_out}
-use Rattle.ipdl_laws.specs.ReactionTotals.{outcome_value}
 use Rattle.ipdl_laws.proofs.Totals.{total_equal, total-scale, total-const, total_append}
 
 -- the same outcome with more bits left

@@ -11,7 +11,7 @@ use Rattle.ipdl_term.specs.Reactions.{reaction_coins}
 use Rattle.ipdl_term.specs.Terms.{Value, Channel}
 use Rattle.ipdl_term.specs.Valuations.{Valuation}
 use Rattle.ipdl_laws.specs.Alike.{IsMonotone}
-use Rattle.ipdl_laws.specs.Flat.{Node, Written, value_of, value_at, WrittenWithin, flat_round, after_flat_rounds, flat_written}
+use Rattle.ipdl_term.specs.Networks.{Node, Written, value_of, value_at, WrittenWithin, flat_round, after_flat_rounds, flat_written}
 use Rattle.ipdl_laws.proofs.FlatLaws.{outcome_value_grows}
 use Rattle.ipdl_laws.proofs.Monotone.{reaction_is_monotone}
 use Rattle.ipdl_laws.proofs.Numbers.{key, keys, length-keys, has-keys}

@@ -6,7 +6,7 @@ use Rattle.std.specs.Prelude.{nat_eq}
 use Rattle.ipdl_term.specs.Channels.{same_channel, has, AreDisjoint, outputs}
 use Rattle.ipdl_term.specs.Terms.{Channel, Protocol, nil, assignment, parallel, hiding}
 use Rattle.ipdl_term.specs.Variables.{first_number}
-use Rattle.ipdl_laws.specs.Flat.{assignment_count, writer_number}
+use Rattle.ipdl_term.specs.Networks.{assignment_count, writer_number}
 use Rattle.ipdl_term.proofs.ChannelSets.{same_channel-sound, has-union}
 use Rattle.ipdl_laws.proofs.Sets.{by_test, if-true, if-false, not_both, or_assoc, has-without, has-without_same}
 

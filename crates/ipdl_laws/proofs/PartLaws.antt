@@ -1,11 +1,11 @@
 -- A part replaced by one that means the same leaves the whole meaning the same.
 use Rattle.std.proofs.Common.{◌≡◌, ℕ, zero, suc, ◌^◌, true, false, List, [], ◌∷◌, length, Some, None, refl, sym, ap, ◌∙◌, subst, arith, pow_pos}
 use Rattle.ipdl_laws.specs.Alike.{Alike}
-use Rattle.ipdl_laws.specs.ReactionTotals.{outcome_value, Weight, reaction_total, weight_then, OutcomeFits}
+use Rattle.ipdl_laws.specs.ReactionTotals.{Weight, reaction_total, weight_then, OutcomeFits}
 use Rattle.ipdl_term.specs.Counts.{total}
 use Rattle.ipdl_term.specs.Equality.{Equal}
 use Rattle.ipdl_term.specs.Interpretations.{Signature, Interpretation, Interprets, chosen, evaluation}
-use Rattle.ipdl_term.specs.Reactions.{Outcome, reaction_outcome}
+use Rattle.ipdl_term.specs.Reactions.{outcome_value, Outcome, reaction_outcome}
 use Rattle.std.specs.Prelude.{map}
 use Rattle.ipdl_term.specs.Terms.{Value, Channel, Expression, application, exclusive, conjunction, negation, concatenation, segment, equality, selection, Reaction, returning, branching, binding, Protocol, assignment, parallel, hiding, Term, protocol_term, reaction_term, expression_term}
 use Rattle.ipdl_term.specs.Typing.{Scope, scope_with, HasWidth, GivesWidth, IsTyped, Typed}

@@ -9,12 +9,12 @@ use Rattle.ipdl_term.specs.Channels.{has}
 use Rattle.ipdl_term.specs.Counts.{total, one_if, same_value}
 use Rattle.ipdl_term.specs.Interpretations.{Interpretation}
 use Rattle.ipdl_term.specs.Protocols.{written}
-use Rattle.ipdl_term.specs.Reactions.{Outcome, reaction_outcome, reaction_coins}
+use Rattle.ipdl_term.specs.Reactions.{outcome_value, Outcome, reaction_outcome, reaction_coins}
 use Rattle.ipdl_term.specs.Terms.{Value, Channel, Reaction, binding, assignment}
 use Rattle.ipdl_term.specs.Typing.{Scope}
 use Rattle.ipdl_term.specs.Valuations.{Valuation, nothing, only, all_taken_out}
 use Rattle.ipdl_laws.specs.Alike.{FitsScope, loop_total, Alike}
-use Rattle.ipdl_laws.specs.ReactionTotals.{outcome_value, Weight, reaction_total, value_count, weight_by, weight_then, OutcomeFits, total_to}
+use Rattle.ipdl_laws.specs.ReactionTotals.{Weight, reaction_total, value_count, weight_by, weight_then, OutcomeFits, total_to}
 use Rattle.ipdl_laws.proofs.Chances.{chance_then, chance, reaction_total-chance, chance_equal, chance-scale}
 use Rattle.ipdl_laws.proofs.Loops.{loop_valuation-assignment}
 use Rattle.ipdl_laws.proofs.Totals.{total_equal, total-scale, total-scale_right, total-add, total-const, total-total}

@@ -1,6 +1,6 @@
 -- Cases by a test, and the laws of sets of channels.
-use Rattle.std.proofs.Common.{◌≡◌, Bool, true, false, ◌||◌, List, [], ◌∷◌, refl, sym, ap, ◌∙◌, subst}
-use Rattle.std.proofs.lemmas.Bool.{or_left, or_right, and_parts}
+use Rattle.std.proofs.Common.{◌≡◌, ◌≢◌, Bool, true, false, ◌||◌, List, [], ◌∷◌, refl, sym, ap, ◌∙◌, subst}
+use Rattle.std.proofs.lemmas.Bool.{or_left, or_right, or_parts, or_from, and_parts}
 use Rattle.std.specs.Prelude.{if◌then◌else◌}
 use Rattle.ipdl_term.specs.Channels.{same_channel, has, without, union, intersection, SameSet, AreDisjoint}
 use Rattle.ipdl_term.specs.Terms.{Channel}
@@ -55,6 +55,10 @@ or_assoc false b c = refl
 pub same_channel-false_swap : (c d : Channel) → same_channel c d ≡ false → same_channel d c ≡ false
 same_channel-false_swap c d h = same_channel_comm d c ∙ h
 
+-- channels that differ are told apart
+pub same_channel-different : (c d : Channel) → c ≢ d → same_channel c d ≡ false
+same_channel-different c d h = by_test (same_channel c d) (λ e. absurd (h (same_channel-sound c d e))) (λ e. e)
+
 -- a fact on one channel holds of the other where they are the same
 pub at_same_channel : (P : Channel → Type 0) (c d : Channel) → same_channel c d ≡ true → P c → P d
 at_same_channel P c d e h = subst P (same_channel-sound c d e) h
@@ -76,6 +80,14 @@ in_union_right cs ds c h = has-union cs ds c ∙ or_right (has cs c) (has ds c) 
 -- a channel of a union that is not in the first is in the second
 pub in_second : (cs ds : List Channel) (c : Channel) → has (union cs ds) c ≡ true → has cs c ≡ false → has ds c ≡ true
 in_second cs ds c h e = sym (ap (λ b. b || has ds c) e) ∙ sym (has-union cs ds c) ∙ h
+
+-- a channel that is in neither of two sets is not in their union
+pub not_in_union : (cs ds : List Channel) (c : Channel) → has cs c ≡ false → has ds c ≡ false → has (union cs ds) c ≡ false
+not_in_union cs ds c h k = has-union cs ds c ∙ or_from (has cs c) (has ds c) h k
+
+-- and the other way round
+pub in_neither : (cs ds : List Channel) (c : Channel) → has (union cs ds) c ≡ false → (has cs c ≡ false) × (has ds c ≡ false)
+in_neither cs ds c h = or_parts (has cs c) (has ds c) (sym (has-union cs ds c) ∙ h)
 
 -- a channel of an intersection is in both
 pub has-intersection : (cs ds : List Channel) (e : Channel) → has (intersection cs ds) e ≡ true → (has cs e ≡ true) × (has ds e ≡ true)

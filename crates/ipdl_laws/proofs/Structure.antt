@@ -42,17 +42,22 @@ module _ (J : Interpretation) where
   protocol_valuation-hiding c w p t inputs =
       ap (taken_out c) (protocol_valuation_outside p t _ _ (λ d k. if_same (same_channel c d) None None _ _ (λ e. refl) (λ e. if-false (has (without c (outputs p)) d) _ _ (has-without c (outputs p) d e ∙ k))))
 
-  -- protocols that write the same on each tape are alike
-  pub alike_of_same_valuations : (scope : Scope) (p q : Protocol) → SameSet (outputs p) (outputs q) → coins p ≡ coins q → ((t : List Bool) → coins p ≤ length t → (inputs : Valuation) → protocol_valuation J p t inputs ≡ protocol_valuation J q t inputs) → Alike J scope p q
-  alike_of_same_valuations scope p q same_outs same_coins same = record {
+  -- protocols that write the same on each tape that is long enough for both are alike
+  pub alike_by_valuations : (scope : Scope) (p q : Protocol) → SameSet (outputs p) (outputs q) →
+      ((t : List Bool) → coins p ≤ length t → coins q ≤ length t → (inputs : Valuation) → protocol_valuation J p t inputs ≡ protocol_valuation J q t inputs) → Alike J scope p q
+  alike_by_valuations scope p q same_outs same = record {
     same_outputs = same_outs;
     totals = λ response is_response weight n hp hq. total_equal n _ _ (λ t e. ap weight (
         let step : Valuation → Valuation = λ s. protocol_valuation J q t (response s) in
-        ap (solution (outputs p)) (fun_ext (λ s. same t (omega arith) (response s))) ∙
+        ap (solution (outputs p)) (fun_ext (λ s. same t (omega arith) (omega arith) (response s))) ∙
         solution_same (outputs p) (outputs q) step (λ s s' h. IsMonotone-protocol_valuation J q t _ _ (is_response.monotone s s' h))
         (λ s c h. WritesOnly-protocol_valuation J q t (response s) c (sym (same_outs c) ∙ h))
         (λ s. WritesOnly-protocol_valuation J q t (response s))));
   }
+
+  -- the same, for protocols of equally many coins
+  pub alike_of_same_valuations : (scope : Scope) (p q : Protocol) → SameSet (outputs p) (outputs q) → coins p ≡ coins q → ((t : List Bool) → coins p ≤ length t → (inputs : Valuation) → protocol_valuation J p t inputs ≡ protocol_valuation J q t inputs) → Alike J scope p q
+  alike_of_same_valuations scope p q same_outs same_coins same = alike_by_valuations scope p q same_outs (λ t enough_p enough_q. same t enough_p)
 
   -- ---- nothing beside
 

@@ -3,6 +3,8 @@ pub mod ReactionTotals
 pub mod MeanSame
 pub mod Holes
 pub mod BothParts
-pub mod Flat
 pub mod Closings
 pub mod FixedInputs
+pub mod Assignments
+pub mod ReactionContexts
+pub mod Refutations

@@ -3,13 +3,8 @@ use Rattle.std.specs.Prelude.{◌≡◌, ℕ, zero, suc, ◌+◌, ◌*◌, ◌^�
 use Rattle.ipdl_term.specs.Terms.{Value, Reaction}
 use Rattle.ipdl_term.specs.Interpretations.{Interpretation}
 use Rattle.ipdl_term.specs.Valuations.{Valuation}
-use Rattle.ipdl_term.specs.Reactions.{Outcome, reaction_outcome}
+use Rattle.ipdl_term.specs.Reactions.{Outcome, outcome_value, reaction_outcome}
 use Rattle.ipdl_term.specs.Counts.{total, tape_count, same_value}
-
--- the value alone, none where the reaction is stuck
-abbrev pub outcome_value : Outcome → Option Value
-outcome_value None = None
-outcome_value (Some o) = Some o.0
 
 -- a weight of each value, and of being stuck
 abbrev pub Weight : Type 0

@@ -2,8 +2,11 @@
 //! law as its contract, so that the check proves it.
 #![tactic(auto)]
 
+pub mod assignments;
 pub mod equality;
 pub mod meaning;
 pub mod nontrivial;
 pub mod places;
+pub mod renaming;
 pub mod terms;
+pub mod told_apart;

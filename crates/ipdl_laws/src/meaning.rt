@@ -3,7 +3,7 @@
 
 ghost use Rattle.std.specs.Prelude.{◌≡◌, ◌↔◌, ◌+◌, ◌*◌, ◌^◌, ◌≤◌, ◌∷◌, ◌++◌, List, ℕ, suc, Bool, true, false, Some, None, length, map, take, drop};
 ghost use Rattle.ipdl_laws.specs.BothParts.{Both, after_steps, step_of_both};
-ghost use Rattle.ipdl_laws.specs.Flat.{Node, Written, WrittenWithin, flat_round, flat_valuation, flat_written};
+ghost use Rattle.ipdl_term.specs.Networks.{Node, Written, WrittenWithin, flat_round, flat_valuation, flat_written};
 ghost use Rattle.ipdl_laws.specs.ReactionTotals.{OutcomeFits, Weight, reaction_total, total_to, value_count, weight_then};
 ghost use Rattle.ipdl_term.specs.Channels.{AreDisjoint, free_channels, has, outputs};
 ghost use Rattle.ipdl_term.specs.Counts.{History, history_count, history_valuation, is_history, total};

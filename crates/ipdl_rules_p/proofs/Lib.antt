@@ -1,3 +1,8 @@
+pub mod ReadPlaces
+pub mod PlacedReads
+pub mod FilledReactions
+pub mod RenamingOne
+pub mod ChangedVariables
 mod Grouping
 pub mod RuleTyping
 pub mod RuleLaws
@@ -5,3 +10,11 @@ pub mod InstanceLaws
 pub mod InstanceMeanings
 pub mod AnswerLaws
 pub mod FreeChannels
+pub mod SilentParts
+pub mod IdleReads
+pub mod Substituting
+pub mod Folding
+pub mod CommunicationTyping
+pub mod CommunicationMeanings
+pub mod RenameLaws
+pub mod Refuted

@@ -8,14 +8,13 @@ use Rattle.ipdl_term.specs.Typing.{Scope, Typed}
 use Rattle.ipdl_laws.proofs.Congruence.{alike_comm}
 use Rattle.ipdl_rules_p.proofs.Grouping.{alike_assocr, alike_assocl, alike_scope}
 use Rattle.ipdl_rules_p.proofs.RuleTyping.{Typed-comm, Typed-assocl, Typed-assocr, Typed-unit, Typed-newswap, Typed-scope}
-use Rattle.ipdl_term.proofs.ChannelSets.{same_channel-sound}
-use Rattle.ipdl_laws.proofs.Sets.{by_test, AreDisjoint_swap, AreDisjoint-union}
+use Rattle.ipdl_laws.proofs.Sets.{same_channel-different, AreDisjoint_swap, AreDisjoint-union}
 use Rattle.ipdl_laws.proofs.Soundness.{alike_is_equal}
 use Rattle.ipdl_laws.proofs.Structure.{alike_unit, alike_newswap}
 
 -- channels that differ are told apart
 pub different : (c d : Channel) → c ≢ d → same_channel c d ≡ false
-different c d h = by_test (same_channel c d) (λ e. absurd (h (same_channel-sound c d e))) (λ e. e)
+different = same_channel-different
 
 module _ (sig : Signature) (scope : Scope) (written : List Channel) where
   -- two parts in the other order

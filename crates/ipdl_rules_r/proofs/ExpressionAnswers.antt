@@ -91,9 +91,15 @@ module _ (q : Question) (answer : Result Agreement TruthFault) where
   abbrev pub TellsSame : Type 0
   TellsSame = IfOk answer (λ agreement. (agreement ≡ Same) ↔ AgreeEverywhere q)
 
--- the answer Same tells all that an instance asks
-pub answered_same : (q : Question) (answer : Result Agreement TruthFault) → TellsAbstract q answer → TellsLarge q answer → TellsWide q answer → TellsSame q answer → answer ≡ Ok Same → IsAnsweredSame q
-answered_same q answer abstracts large wide same e = record { tables = tables; light = light; narrow = narrow; agree = agree }
+-- The two expressions are compared: no abstract symbol occurs, and neither sum is too large.
+pub record IsCompared (q : Question) : Type 0 where
+  pub tables : first_abstract q ≡ None
+  pub light : weight_of q ≤ greatest_weight
+  pub narrow : free_bits q ≤ greatest_free_bits
+
+-- so it is where there is an agreement
+pub is_compared : (q : Question) (answer : Result Agreement TruthFault) → TellsAbstract q answer → TellsLarge q answer → TellsWide q answer → (agreement : Agreement) → answer ≡ Ok agreement → IsCompared q
+is_compared q answer abstracts large wide agreement e = record { tables = tables; light = light; narrow = narrow }
   where
     none : (o : Option ℕ) → first_abstract q ≡ o → o ≡ None
     none None is = refl
@@ -114,10 +120,12 @@ answered_same q answer abstracts large wide same e = record { tables = tables; l
       | inr few ↦ few
     ]
 
-    agree : AgreeEverywhere q
-    agree =
-        let told = subst (λ a. IfOk a (λ agreement. (agreement ≡ Same) ↔ AgreeEverywhere q)) e same in
-        told.0 refl
+-- the answer Same tells all that an instance asks
+pub answered_same : (q : Question) (answer : Result Agreement TruthFault) → TellsAbstract q answer → TellsLarge q answer → TellsWide q answer → TellsSame q answer → answer ≡ Ok Same → IsAnsweredSame q
+answered_same q answer abstracts large wide same e =
+    let h = is_compared q answer abstracts large wide Same e in
+    let told = subst (λ a. IfOk a (λ agreement. (agreement ≡ Same) ↔ AgreeEverywhere q)) e same in
+    record { tables = h.tables; light = h.light; narrow = h.narrow; agree = told.0 refl }
 
 -- and where it holds the answer is Same, or memory ran out
 pub same_or_memory : (q : Question) (answer : Result Agreement TruthFault) → TellsAbstract q answer → TellsLarge q answer → TellsWide q answer → TellsSame q answer → IsAnsweredSame q → (told_of answer ≡ Ok tt) ⊎ (told_of answer ≡ Err E.Memory)

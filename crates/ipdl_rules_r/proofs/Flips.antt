@@ -7,13 +7,13 @@ use Rattle.ipdl_base.specs.Bits.{xor_bits}
 use Rattle.ipdl_laws.proofs.Chances.{first_bits_of_append}
 use Rattle.ipdl_laws.proofs.Sets.{by_test}
 use Rattle.ipdl_laws.proofs.Totals.{total_equal, total_append}
-use Rattle.ipdl_laws.specs.ReactionTotals.{outcome_value, Weight, reaction_total}
-use Rattle.ipdl_rules_r.proofs.Rewritten.{outcome_without, evaluation_of_lowered, outcome_of_replaced, outcome_of_joined}
+use Rattle.ipdl_laws.specs.ReactionTotals.{Weight, reaction_total}
+use Rattle.ipdl_laws.proofs.Rewritten.{outcome_without, evaluation_of_lowered, outcome_of_replaced, outcome_of_joined}
 use Rattle.ipdl_rules_r.proofs.SameOutcomes.{totals_of_same_outcomes}
 use Rattle.ipdl_rules_r.specs.SameTotals.{HaveSameTotals}
 use Rattle.ipdl_term.specs.Counts.{total}
 use Rattle.ipdl_term.specs.Interpretations.{Interpretation, cut_value, at_one_width, evaluation}
-use Rattle.ipdl_term.specs.Reactions.{first_bits, continued, reaction_outcome}
+use Rattle.ipdl_term.specs.Reactions.{outcome_value, first_bits, continued, reaction_outcome}
 use Rattle.ipdl_term.specs.Rewriting.{lowered_expression, replaced_reaction, joined_reaction}
 use Rattle.ipdl_term.specs.Terms.{Value, Expression, variable, exclusive, Reaction, flipping, binding}
 use Rattle.ipdl_term.specs.Valuations.{Valuation}

@@ -5,7 +5,7 @@ use Rattle.ipdl_laws.specs.MeanSame.{MeanSame}
 use Rattle.ipdl_rules_r.proofs.Flips.{join_is_as_likely}
 use Rattle.ipdl_rules_r.proofs.Masking.{mask_is_as_likely}
 use Rattle.ipdl_rules_r.proofs.Permuting.{perm_is_as_likely}
-use Rattle.ipdl_rules_r.proofs.PlacedReactions.{typed_with_reaction}
+use Rattle.ipdl_laws.proofs.PlacedReactions.{typed_with_reaction}
 use Rattle.ipdl_rules_r.proofs.RuleTyping.{instance_is_typed}
 use Rattle.ipdl_rules_r.proofs.SameOutcomes.{same_is_as_likely, beta_is_the_same, eta_is_the_same, assoc_is_the_same, again_is_the_same, iftrue_is_the_same, iffalse_is_the_same, ifsame_is_the_same, ifbind_is_the_same, flip0_is_the_same}
 use Rattle.ipdl_rules_r.proofs.TableLaws.{whole_table}

@@ -6,7 +6,7 @@ use Rattle.std.specs.Prelude.{nat_eq, nat_lt, slice_get}
 use Rattle.ipdl_laws.proofs.Substitution.{lifted_number-all}
 use Rattle.ipdl_laws.proofs.Widths.{length-zeros, length-evaluation}
 use Rattle.ipdl_rules_r.proofs.Flips.{mask_by_width}
-use Rattle.ipdl_rules_r.proofs.Rewritten.{evaluation_of_lowered}
+use Rattle.ipdl_laws.proofs.Rewritten.{evaluation_of_lowered}
 use Rattle.ipdl_rules_r.specs.SameTotals.{HaveSameTotals}
 use Rattle.ipdl_term.specs.Interpretations.{Signature, Interpretation, Interprets, zeros}
 use Rattle.ipdl_term.specs.Rewriting.{replaced_reaction}

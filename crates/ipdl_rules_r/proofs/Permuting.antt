@@ -12,7 +12,7 @@ use Rattle.ipdl_laws.proofs.Widths.{length-evaluation}
 use Rattle.ipdl_laws.specs.ReactionTotals.{reaction_total}
 use Rattle.ipdl_rules_r.proofs.Flips.{same_behind_flip}
 use Rattle.ipdl_rules_r.proofs.InjectiveMaps.{injective_maps_keep_sums}
-use Rattle.ipdl_rules_r.proofs.Rewritten.{outcome_of_replaced}
+use Rattle.ipdl_laws.proofs.Rewritten.{outcome_of_replaced}
 use Rattle.ipdl_rules_r.proofs.SameOutcomes.{totals_of_same_outcomes}
 use Rattle.ipdl_rules_r.specs.SameTotals.{HaveSameTotals}
 use Rattle.ipdl_rules_r.specs.Tables.{IsTableOn, AreDifferent}

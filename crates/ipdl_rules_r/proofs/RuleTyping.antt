@@ -1,6 +1,6 @@
 -- The right side of a rule is typed where the left one is.
 use Rattle.std.proofs.Common.{◌≡◌, ℕ, zero, true, false, List, [], ◌∷◌, Some, refl, sym, subst}
-use Rattle.ipdl_rules_r.proofs.RewrittenTyping.{GivesWidth-put, GivesWidth-lifted, GivesWidth-lowered, GivesWidth-exchanged, GivesWidth-replaced, GivesWidth-joined}
+use Rattle.ipdl_laws.proofs.RewrittenTyping.{GivesWidth-put, GivesWidth-lifted, GivesWidth-lowered, GivesWidth-exchanged, GivesWidth-replaced, GivesWidth-joined}
 use Rattle.ipdl_rules_r.specs.Instances.{IsReactionInstance, ArgumentFits}
 use Rattle.ipdl_term.specs.Interpretations.{Signature}
 use Rattle.ipdl_term.specs.Rules.{Rule}

@@ -3,11 +3,11 @@ use Rattle.std.proofs.Common.{◌≡◌, ℕ, Bool, true, false, List, [], ◌�
 use Rattle.std.proofs.lemmas.Bool.{or_parts}
 use Rattle.ipdl_laws.proofs.Substitution.{outcome_of_put, reaction_outcome-lifted}
 use Rattle.ipdl_laws.proofs.Totals.{total_equal}
-use Rattle.ipdl_laws.specs.ReactionTotals.{outcome_value, Weight, reaction_total}
-use Rattle.ipdl_rules_r.proofs.Rewritten.{continued_equal, outcome_of_lowered}
+use Rattle.ipdl_laws.specs.ReactionTotals.{Weight, reaction_total}
+use Rattle.ipdl_laws.proofs.Rewritten.{continued_equal, outcome_of_lowered}
 use Rattle.ipdl_rules_r.specs.SameTotals.{DoTheSame, HaveSameTotals}
 use Rattle.ipdl_term.specs.Interpretations.{Interpretation, chosen, evaluation}
-use Rattle.ipdl_term.specs.Reactions.{Outcome, with_tape, continued, reaction_outcome}
+use Rattle.ipdl_term.specs.Reactions.{outcome_value, Outcome, with_tape, continued, reaction_outcome}
 use Rattle.ipdl_term.specs.Rewriting.{lowered_reaction}
 use Rattle.ipdl_term.specs.Terms.{Value, Expression, literal, variable, Reaction, returning, flipping, reading, branching, binding}
 use Rattle.ipdl_term.specs.Valuations.{Valuation}

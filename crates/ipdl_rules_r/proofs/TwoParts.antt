@@ -5,14 +5,14 @@ use Rattle.ipdl_laws.proofs.Products.{reaction_total-binding}
 use Rattle.ipdl_laws.proofs.ReadingLaws.{not_stuck}
 use Rattle.ipdl_laws.proofs.Substitution.{reaction_outcome-lifted}
 use Rattle.ipdl_laws.proofs.Totals.{total_equal, total-scale, total-const, total-total, cancelled}
-use Rattle.ipdl_laws.specs.ReactionTotals.{outcome_value, Weight, reaction_total, weight_by, weight_then}
-use Rattle.ipdl_rules_r.proofs.Rewritten.{outcome_of_lowered, outcome_of_exchanged}
+use Rattle.ipdl_laws.specs.ReactionTotals.{Weight, reaction_total, weight_by, weight_then}
+use Rattle.ipdl_laws.proofs.Rewritten.{outcome_of_lowered, outcome_of_exchanged}
 use Rattle.ipdl_rules_r.proofs.SameOutcomes.{totals_of_same_outcomes}
 use Rattle.ipdl_rules_r.specs.SameTotals.{HaveSameTotals}
 use Rattle.ipdl_term.specs.Channels.{has, reads}
 use Rattle.ipdl_term.specs.Counts.{total}
 use Rattle.ipdl_term.specs.Interpretations.{Interpretation}
-use Rattle.ipdl_term.specs.Reactions.{reaction_outcome, reaction_coins}
+use Rattle.ipdl_term.specs.Reactions.{outcome_value, reaction_outcome, reaction_coins}
 use Rattle.ipdl_term.specs.Rewriting.{lowered_reaction, exchanged_reaction}
 use Rattle.ipdl_term.specs.Terms.{Value, Reaction, returning, flipping, reading, branching, binding}
 use Rattle.ipdl_term.specs.Valuations.{Valuation}

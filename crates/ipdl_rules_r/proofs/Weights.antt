@@ -1,13 +1,12 @@
 -- How many nodes there are, and how great the variables, where variables are changed.
-use Rattle.std.proofs.Common.{◌≡◌, ℕ, suc, ◌+◌, ◌-◌, ◌^◌, ◌<◌, ◌≤◌, [], refl, sym, ap, ◌∙◌, arith}
+use Rattle.std.proofs.Common.{◌≡◌, ℕ, suc, ◌+◌, ◌-◌, ◌≤◌, refl, sym, ap, ◌∙◌, arith}
 use Rattle.std.proofs.lemmas.Bool.Decides.{nat_tests}
 use Rattle.std.specs.Prelude.{if◌then◌else◌, nat_eq, nat_lt}
 use Rattle.ipdl_laws.proofs.Sets.{by_test, if-true, if-false}
-use Rattle.ipdl_rules_r.proofs.Numbering.{by_order, stays, grows, put-near, put-here, put-behind, at_first, at_second, at_neither, variables_replaced, variables_joined}
+use Rattle.ipdl_laws.proofs.ChangedSizes.{lifted_reaction-nodes, lowered_reaction-nodes, put_reaction-same_nodes, LiftFitsInReaction-greatest}
+use Rattle.ipdl_laws.proofs.Numbering.{by_order, stays, grows, put-near, put-here, put-behind, at_first, at_second, at_neither, variables_replaced, variables_joined}
 use Rattle.ipdl_rules_r.specs.Weights.{weighed_variable, weighed_expression, weighed_reaction}
-use Rattle.ipdl_term.proofs.FittingLemmas.{LiftFitsInExpression-greatest}
 use Rattle.ipdl_term.proofs.SizeLemmas.{expression_nodes-lifted}
-use Rattle.ipdl_term.specs.Fitting.{LiftFitsInReaction}
 use Rattle.ipdl_term.specs.Sizes.{saturated, expression_nodes, reaction_nodes, reaction_binders, greatest_in_expression, greatest_in_reaction}
 use Rattle.ipdl_term.specs.Terms.{Expression, literal, variable, outer, application, exclusive, conjunction, negation, concatenation, segment, equality, selection, Reaction, returning, flipping, reading, branching, binding}
 use Rattle.ipdl_term.specs.Variables.{lifted_number, lifted_expression, lifted_reaction, put_number, put_expression, put_reaction}
@@ -61,12 +60,6 @@ joined_at v w d n = ap expression_nodes (variables_joined v w d n) ∙ by_order 
     left = by_test (nat_lt n d)
         (λ e. ap expression_nodes (if-true (nat_lt n d) (variable n) (variable (n - 1)) e))
         (λ e. ap expression_nodes (if-false (nat_lt n d) (variable n) (variable (n - 1)) e))
-
-ones_at : (d n : ℕ) → weighed_variable d 1 1 n ≡ 1
-ones_at d n = by_order n d
-    (λ l. weighed_other d 1 n (λ e. absurd (omega arith)))
-    (λ e. weighed_here d 1 1 n e)
-    (λ l. weighed_other d 1 n (λ e. absurd (omega arith)))
 
 pub put_expression-nodes : (d : ℕ) (e v : Expression) → expression_nodes (put_expression d e v) ≡ weighed_expression d (expression_nodes v) 1 e
 put_expression-nodes d (literal bits) v = refl
@@ -128,38 +121,8 @@ joined_reaction-nodes x y d (reading c) = refl
 joined_reaction-nodes x y d (branching e r s) = rw (joined_expression-nodes x y d e, joined_reaction-nodes x y d r, joined_reaction-nodes x y d s)
 joined_reaction-nodes x y d (binding w r s) = rw (joined_reaction-nodes x y d r, joined_reaction-nodes x y (suc d) s)
 
-pub ones_expression : (d : ℕ) (e : Expression) → weighed_expression d 1 1 e ≡ expression_nodes e
-ones_expression d (literal bits) = refl
-ones_expression d (variable n) = ones_at d n
-ones_expression d (outer n) = refl
-ones_expression d (application f e) = rw (ones_expression d e)
-ones_expression d (exclusive a b) = rw (ones_expression d a, ones_expression d b)
-ones_expression d (conjunction a b) = rw (ones_expression d a, ones_expression d b)
-ones_expression d (negation a) = rw (ones_expression d a)
-ones_expression d (concatenation a b) = rw (ones_expression d a, ones_expression d b)
-ones_expression d (segment i m a) = rw (ones_expression d a)
-ones_expression d (equality a b) = rw (ones_expression d a, ones_expression d b)
-ones_expression d (selection c a b) = rw (ones_expression d c, ones_expression d a, ones_expression d b)
-
-pub ones_reaction : (d : ℕ) (r : Reaction) → weighed_reaction d 1 1 r ≡ reaction_nodes r
-ones_reaction d (returning e) = rw (ones_expression d e)
-ones_reaction d (flipping w) = refl
-ones_reaction d (reading c) = refl
-ones_reaction d (branching e r s) = rw (ones_expression d e, ones_reaction d r, ones_reaction d s)
-ones_reaction d (binding w r s) = rw (ones_reaction d r, ones_reaction (suc d) s)
-
-pub lifted_reaction-nodes : (from by : ℕ) (r : Reaction) → reaction_nodes (lifted_reaction r from by) ≡ reaction_nodes r
-lifted_reaction-nodes from by (returning e) = rw (expression_nodes-lifted e from by)
-lifted_reaction-nodes from by (flipping w) = refl
-lifted_reaction-nodes from by (reading c) = refl
-lifted_reaction-nodes from by (branching e r s) = rw (expression_nodes-lifted e from by, lifted_reaction-nodes from by r, lifted_reaction-nodes from by s)
-lifted_reaction-nodes from by (binding w r s) = rw (lifted_reaction-nodes from by r, lifted_reaction-nodes (suc from) by s)
-
-pub lowered_reaction-nodes : (r : Reaction) → reaction_nodes (put_reaction 0 r (literal [])) ≡ reaction_nodes r
-lowered_reaction-nodes r = put_reaction-nodes 0 r (literal []) ∙ ones_reaction 0 r
-
 pub exchanged_reaction-nodes : (r : Reaction) → reaction_nodes (put_reaction 0 (lifted_reaction r 2 1) (variable 1)) ≡ reaction_nodes r
-exchanged_reaction-nodes r = put_reaction-nodes 0 (lifted_reaction r 2 1) (variable 1) ∙ ones_reaction 0 (lifted_reaction r 2 1) ∙ lifted_reaction-nodes 2 1 r
+exchanged_reaction-nodes r = put_reaction-same_nodes (variable 1) refl 0 (lifted_reaction r 2 1) ∙ lifted_reaction-nodes 2 1 r
 
 -- ---- nodes, counted in 64 bits
 
@@ -264,15 +227,6 @@ put_reaction-binders d (flipping w) v = refl
 put_reaction-binders d (reading c) v = refl
 put_reaction-binders d (branching e r s) v = rw (put_reaction-binders d r v, put_reaction-binders d s v)
 put_reaction-binders d (binding w r s) v = rw (put_reaction-binders d r v, put_reaction-binders (suc d) s v)
-
-pub LiftFitsInReaction-greatest : (r : Reaction) (from by : ℕ) → greatest_in_reaction r + by < 2 ^ 32 → LiftFitsInReaction r from by
-LiftFitsInReaction-greatest (returning e) from by room = LiftFitsInExpression-greatest e from by room
-LiftFitsInReaction-greatest (flipping w) from by room = tt
-LiftFitsInReaction-greatest (reading c) from by room = tt
-LiftFitsInReaction-greatest (branching e r s) from by room =
-    (LiftFitsInExpression-greatest e from by (omega arith), LiftFitsInReaction-greatest r from by (omega arith), LiftFitsInReaction-greatest s from by (omega arith))
-LiftFitsInReaction-greatest (binding w r s) from by room =
-    (LiftFitsInReaction-greatest r from by (omega arith), LiftFitsInReaction-greatest s (suc from) by (omega arith))
 
 pub ruleset weights = (put_reaction-nodes, replaced_reaction-nodes, joined_reaction-nodes, lifted_reaction-nodes, lowered_reaction-nodes, exchanged_reaction-nodes, saturated_reaction)
 

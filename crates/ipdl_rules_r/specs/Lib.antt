@@ -2,6 +2,7 @@ pub mod Tables
 pub mod Instances
 pub mod Expressions
 pub mod Told
+pub mod TruthTests
 pub mod WorkedExpressions
 pub mod Matching
 pub mod SameTotals
@@ -10,3 +11,4 @@ pub mod Weights
 pub mod RightSides
 pub mod Answers
 pub mod Worked
+pub mod Refutations

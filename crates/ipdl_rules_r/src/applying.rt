@@ -20,7 +20,7 @@ use crate::right_side::{NewValue, RightSide, no_bits};
 use crate::tables::{all_different, table_on};
 use ipdl_base::Bits;
 use ipdl_sig::Sig;
-use ipdl_term::{Expr, React, Rule, has_flip, has_read, uses};
+use ipdl_term::{Expr, React, Rule, has_flip, has_read, uses, uses_in_expr};
 use std::alloc::Global;
 
 // `(bind x W (ret E) R)` to R with E for x.
@@ -228,21 +228,6 @@ fn ifbind(alloc: Global, term: &React) -> Result<React, RuleFault>
     }
 }
 
-// Whether variable 0 occurs in the expression.
-fn has_variable(term: &Expr) -> bool
-    ensures { result ≡ expression_uses (expression_of term.now) 0 }
-{
-    match term {
-        Expr::Lit(_) | Expr::Outer(_) => false,
-        Expr::Var(n) => *n == 0,
-        Expr::Apply(_, e) | Expr::Not(e) | Expr::Cut(_, _, e) => has_variable(e),
-        Expr::Xor(a, b) | Expr::And(a, b) | Expr::Cat(a, b) | Expr::Same(a, b) => {
-            has_variable(a) || has_variable(b)
-        }
-        Expr::Mux(c, a, b) => has_variable(c) || (has_variable(a) || has_variable(b)),
-    }
-}
-
 // `(bind x W (flip W) S)` with `(xor x E)` for x in S, where x is not used in E.
 fn mask(alloc: Global, masking: &Expr, term: &React) -> Result<React, RuleFault>
     requires { HasRoom (R.mask (expression_of masking.now)) (reaction_of term.now) }
@@ -255,7 +240,7 @@ fn mask(alloc: Global, masking: &Expr, term: &React) -> Result<React, RuleFault>
                 if *w != *v {
                     return Err(RuleFault::NoMatch);
                 }
-                if has_variable(masking) {
+                if uses_in_expr(masking, 0) {
                     return Err(RuleFault::Side(1));
                 }
                 RightSide::Bind(

@@ -5,6 +5,7 @@ ghost use Rattle.std.specs.Prelude.{◌≡◌, ◌↔◌, ◌⊎◌, ◌<◌, �
 ghost use Rattle.ipdl_laws.specs.MeanSame.{MeanSame};
 ghost use Rattle.ipdl_rules_r.specs.Expressions.{AsksWhere, CanBeAsked, IsAnsweredSame, IsAsking, IsExpressionInstance};
 ghost use Rattle.ipdl_rules_r.specs.Told.{told_of};
+ghost use Rattle.ipdl_rules_r.specs.TruthTests.{TellsTruth, truth_refusal};
 ghost use Rattle.ipdl_term.specs.Equality.{Equal};
 ghost use Rattle.ipdl_term.specs.Interpretations.{Interpretation, Interprets, Signature};
 ghost use Rattle.ipdl_term.specs.Places.{term_at, term_with};
@@ -17,7 +18,7 @@ ghost use Rattle.ipdl_term.specs.Typing.{HasWidth, Scope, Typed};
 ghost use Rattle.ipdl_term.specs.Views.{expression_of};
 ghost use Rattle.ipdl_truth.specs.Agreement.{DifferFirstAt};
 ghost use Rattle.ipdl_truth.specs.FreeVariables.{greatest_free_bits};
-ghost use Rattle.ipdl_truth.specs.Questions.{first_abstract, free_bits, question_of, weight_of};
+ghost use Rattle.ipdl_truth.specs.Questions.{Question, first_abstract, free_bits, question_of, weight_of};
 ghost use Rattle.ipdl_truth.specs.Weights.{greatest_weight};
 ghost use Rattle.ipdl_typing.specs.Signatures.{signature_of};
 
@@ -67,6 +68,11 @@ pub fn expression_instance_at_place()
         term_with whole place (expression_term right) ≡ protocol_term q →
         IsExpressionInstance sig s.widths s.conditions rule left right →
         Equal sig scope written p q }
+{}
+
+/// A question is answered by "the same" exactly where none of the tests refuses it.
+pub fn truth_exactly()
+    ensures { (q : Question) → IsAnsweredSame q ↔ (truth_refusal q ≡ None) }
 {}
 
 // What the answer on the truth says of the rule.
@@ -124,6 +130,10 @@ pub fn apply_expr(
     ensures not_same { (valuation : List (ℕ × Value)) →
         result ≡ Err (ExprFault.NotSame valuation) →
         AsksWhere (λ q. DifferFirstAt q valuation) (signature_of sig.now)
+        (reverse widths.now) (map condition_of conditions.now) (rule_of rule.now)
+        (expression_of old.now) }
+    ensures told { IsAsking (rule_of rule.now) →
+        AsksWhere (λ q. TellsTruth result (truth_refusal q)) (signature_of sig.now)
         (reverse widths.now) (map condition_of conditions.now) (rule_of rule.now)
         (expression_of old.now) }
 {

@@ -7,6 +7,7 @@ mod applying;
 mod expressions;
 mod fault;
 mod instances;
+mod refutations;
 mod right_side;
 mod rules;
 mod tables;
@@ -17,12 +18,18 @@ mod worked_expressions;
 
 pub use applying::apply_react;
 pub use expressions::{
-    ExprFault, apply_expr, expression_instance_at_place, expression_instance_means,
+    ExprFault, apply_expr, expression_instance_at_place, expression_instance_means, truth_exactly,
 };
 pub use fault::RuleFault;
 pub use instances::{
     instance_at_place, instance_exactly, instance_is_as_likely, instance_is_typed, instance_means,
     one_right_side, typed_instance_at_place, typed_with_reaction,
+};
+pub use refutations::{
+    again_needs_an_unused_value, again_needs_no_flip, again_needs_the_same_part,
+    dropr_needs_an_unused_value, dropr_needs_no_read, ifsame_needs_the_same_arms,
+    mask_needs_an_independent_mask, perm_needs_a_table, perm_needs_different_values,
+    perm_needs_one_width, swap_needs_an_unused_value,
 };
 pub use rules::{
     again_is_the_same, assoc_is_the_same, beta_is_the_same, dropr_is_as_likely, eta_is_the_same,
@@ -36,5 +43,5 @@ pub use variables::{
 };
 pub use worked::{each_rule_once, failing_sides, other_shapes};
 pub use worked_expressions::{
-    cancelled_bits_are_zeros, no_rule_for_expressions, variables_in_their_arms,
+    cancelled_bits_are_zeros, no_rule_for_expressions, refused_questions, variables_in_their_arms,
 };

@@ -1,8 +1,9 @@
 //! Worked rows of the rule that rewrites an expression: each is computed from the definitions. The
 //! functions do nothing, and their contracts are the rows.
 
-ghost use Rattle.std.specs.Prelude.{[], ◌∷◌};
-ghost use Rattle.ipdl_rules_r.specs.Expressions.{IsExpressionInstance};
+ghost use Rattle.std.specs.Prelude.{◌≡◌, false, true, [], ◌∷◌, None, Some};
+ghost use Rattle.ipdl_rules_r.specs.Expressions.{IsExpressionInstance, question_at};
+ghost use Rattle.ipdl_rules_r.specs.TruthTests.{differ_at, too_wide, truth_refusal};
 ghost use Rattle.ipdl_rules_r.specs.Worked.{symbols, v0, v1};
 ghost use Rattle.ipdl_rules_r.specs.WorkedExpressions.{cancelled, nothing_of, two_arms, two_binders};
 ghost use Rattle.ipdl_term.specs.Rules as R;
@@ -19,6 +20,15 @@ pub fn variables_in_their_arms()
     ensures outer { IsExpressionInstance symbols two_binders two_arms (R.table 2 (nothing_of 2)) v1 (nothing_of 2) }
     ensures innermost_alone { IsExpressionInstance symbols two_binders two_arms (R.table 1 (nothing_of 2)) v1 (nothing_of 2) → ⊥ }
     ensures too_many { IsExpressionInstance symbols two_binders two_arms (R.table 3 (nothing_of 2)) v1 (nothing_of 2) → ⊥ }
+{}
+
+/// The outer one differs from zeros first at `#01`, where the innermost condition alone is met. A
+/// value of 13 bits is too wide.
+pub fn refused_questions()
+    ensures both { truth_refusal (question_at symbols two_binders two_arms 2 v1 (nothing_of 2)) ≡ None }
+    ensures innermost_alone { truth_refusal (question_at symbols two_binders two_arms 1 v1 (nothing_of 2))
+        ≡ Some (differ_at ((0, false ∷ true ∷ []) ∷ (1, false ∷ []) ∷ [])) }
+    ensures wide { truth_refusal (question_at symbols (13 ∷ []) [] 0 cancelled (nothing_of 13)) ≡ Some (too_wide 13) }
 {}
 
 /// A rule for protocols makes nothing of an expression.

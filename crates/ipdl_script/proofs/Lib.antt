@@ -8,6 +8,9 @@ pub mod MarkLaws
 pub mod MeaningLaws
 pub mod WrongLaws
 pub mod Fits
+pub mod PartRoom
+pub mod PartTests
+pub mod TableTruth
 pub mod Refusals
 pub mod WholeTerms
 pub mod TrailLists

@@ -56,7 +56,7 @@ module _ (x : Setting) where
   rewritten_back before place rule term after h =
       let s = around_step x before (rev place rule term) in
       let settled = settled_for before (rev place rule term) rule in
-      let kinds = instance_kinds x.sig s settled h.new h.old h.change.1 in
+      let kinds = instance_kinds x.sig s settled h.new h.old h.change.2 in
       let kind = one_kind (row_of settled).kind h.old h.new kinds.1 kinds.0 in
       let there = kept (outermost (scope_in x)) (protocol_term before) place h.old h.new h.place kind in
       let back = term_with_back (outermost (scope_in x)) (protocol_term before) place h.old h.new h.place kind in
@@ -64,7 +64,7 @@ module _ (x : Setting) where
         left = h.new;
         right = h.old;
         there = subst (λ t. term_at t place ≡ Some h.new) h.whole there.1;
-        sides = subst (λ t. IsInstanceAt x.sig (around (outermost (scope_in x)) t place) settled h.new h.old) h.whole (subst (λ y. IsInstanceAt x.sig y settled h.new h.old) (sym there.2) h.change.1);
+        sides = subst (λ t. IsInstanceAt x.sig (around (outermost (scope_in x)) t place) settled h.new h.old) h.whole (subst (λ y. IsInstanceAt x.sig y settled h.new h.old) (sym there.2) h.change.2);
         whole = subst (λ t. term_with t place h.old ≡ protocol_term before) h.whole back;
       }
 

@@ -1,9 +1,10 @@
 -- What a call tells of the first of two groups of tests, it tells of both.
-use Rattle.std.proofs.Common.{◌≡◌, List, [], ◌∷◌, ◌++◌, Option, Some, None, refl, ap, subst, sym}
+use Rattle.std.proofs.Common.{◌≡◌, List, [], ◌∷◌, ◌++◌, Option, Some, None, Result, refl, ap, subst, sym}
 use Rattle.std.specs.Option.{option_or}
 use Rattle.ipdl_script.specs.Answers.{TellsRefusal, TellsWrong}
 use Rattle.ipdl_script.specs.Scripts.{Wrong}
 use Rattle.ipdl_script.specs.Steps.{Refusal, first_refusal}
+use Rattle.ipdl_script.specs.TestGroups.{AnswersTest}
 use Rattle.ipdl_script.specs.declared.fault.ScriptFault.{ScriptFault}
 use Rattle.ipdl_script.specs.declared.fault.ScriptFault.TheVariants as F
 use Rattle.ipdl_script.specs.declared.fault.StepFault.{StepFault}
@@ -25,6 +26,10 @@ pub first_refusal-append : (tests later : List (Option Refusal)) → first_refus
 first_refusal-append [] later = refl
 first_refusal-append (None ∷ tests) later = first_refusal-append tests later
 first_refusal-append (Some refusal ∷ tests) later = refl
+
+-- a call that comes after a test that passes tells the refusal of both
+pub answers_later : {X : Type 0} (r : Result X StepFault) (test later : Option Refusal) → test ≡ None → AnswersTest r later → AnswersTest r (option_or test later)
+answers_later r test later passed h = subst (λ t. AnswersTest r (option_or t later)) (sym passed) h
 
 -- ---- the same of scripts
 

@@ -7,7 +7,7 @@ use Rattle.ipdl_base.specs.declared.limit.Limit.TheVariants.{Chain as ChainLimit
 use Rattle.ipdl_chain.specs.Chains.{Link, Chain, last_of, neighbour_count, turned_links}
 use Rattle.ipdl_script.proofs.DifferenceLaws.{differing_place-none, differing_place-same}
 use Rattle.ipdl_script.proofs.StepLaws.{step_stands, stands_step}
-use Rattle.ipdl_script.proofs.StepTests.{limit_test-kept, limit_is_kept}
+use Rattle.ipdl_script.proofs.StepTests.{none_of_map, limit_test-kept, limit_is_kept}
 use Rattle.ipdl_script.specs.EndPlaces.{differing_place}
 use Rattle.ipdl_script.specs.Scripts.{Theorem, links_of_step, count_after, IsScript, IsChain, Side, left_side, right_side, wrong_step, wrong_ends, chain_test, wrong_in_script, links_of_script, left_links, right_links, left_end, right_end, first_wrong, chain_of_scripts}
 use Rattle.ipdl_script.specs.Steps.{Setting, step_refusal, after_step}
@@ -33,10 +33,6 @@ either_none (Some x) b h k = cc
 pub none_of_either : {X : Type 0} (a b : Option X) → option_or a b ≡ None → (a ≡ None) × (b ≡ None)
 none_of_either None b h = (refl, h)
 none_of_either (Some x) b h = cc
-
-pub none_of_map : {X Y : Type 0} (f : X → Y) (a : Option X) → option_map f a ≡ None → a ≡ None
-none_of_map f None h = refl
-none_of_map f (Some x) h = cc
 
 -- ---- scripts
 

@@ -1,12 +1,21 @@
 -- The tests of a step: when one passes, and which of several is told.
 use Rattle.std.proofs.Common.{◌≡◌, ℕ, ◌≤◌, nat_le, Bool, true, false, List, [], ◌∷◌, ◌++◌, Option, Some, None, refl, ap}
 use Rattle.std.proofs.lemmas.Bool.{leb-true, le-leb}
+use Rattle.std.specs.Option.{option_or}
 use Rattle.std.specs.Prelude.{option_map, if◌then◌else◌}
 use Rattle.ipdl_base.specs.declared.limit.Limit.{Limit}
 use Rattle.ipdl_script.specs.Instances.{Answer, other_shape, gives}
 use Rattle.ipdl_script.specs.Steps.{Refusal, ill_typed, AllPass, refused_unless, limit_test, variable_test, first_refusal}
 use Rattle.ipdl_term.specs.Terms.{Term}
 use Rattle.ipdl_typing.specs.Checks.{Failure, first_failure}
+
+pub none_of_map : {X Y : Type 0} (f : X → Y) (a : Option X) → option_map f a ≡ None → a ≡ None
+none_of_map f None h = refl
+none_of_map f (Some x) h = cc
+
+pub option_or-none : {X : Type 0} (a : Option X) → option_or a None ≡ a
+option_or-none None = refl
+option_or-none (Some x) = refl
 
 -- ---- several tests
 

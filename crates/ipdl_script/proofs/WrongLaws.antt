@@ -8,9 +8,9 @@ use Rattle.ipdl_base.specs.declared.limit.Limit.TheVariants.{Chain as ChainLimit
 use Rattle.ipdl_chain.specs.Chains.{Link, last_of, neighbour_count}
 use Rattle.ipdl_script.proofs.DifferenceLaws.{differ_first, differs_first_exactly}
 use Rattle.ipdl_script.proofs.MeaningLaws.{last_of-step}
-use Rattle.ipdl_script.proofs.ScriptLaws.{none_of_either, none_of_map, script_stands, stands_script}
+use Rattle.ipdl_script.proofs.ScriptLaws.{none_of_either, script_stands, stands_script}
 use Rattle.ipdl_script.proofs.StepLaws.{step_stands, stands_step}
-use Rattle.ipdl_script.proofs.StepTests.{limit_test-kept, limit_is_kept}
+use Rattle.ipdl_script.proofs.StepTests.{none_of_map, limit_test-kept, limit_is_kept}
 use Rattle.ipdl_script.specs.EndPlaces.{differing_place}
 use Rattle.ipdl_script.specs.Scripts.{Theorem, links_of_step, count_after, IsScript, Side, left_side, right_side, Wrong, wrong_step, wrong_ends, chain_test, refusal_in_script, wrong_in_script, left_links, right_links, left_end, right_end, first_wrong, IsRefusedAt, IsFirstWrong}
 use Rattle.ipdl_script.specs.Steps.{Setting, Refusal, step_refusal, after_step}

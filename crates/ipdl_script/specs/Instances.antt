@@ -1,16 +1,24 @@
 -- Instances of rules at a place in a term, and what a rule answers there. Each crate of rules has its cases here, by the
--- kind of term that its rules rewrite; whatever is said of steps asks these two definitions alone.
-use Rattle.std.specs.Prelude.{ℕ}
+-- kind of term that its rules rewrite; whatever is said of steps asks these definitions alone.
+use Rattle.std.specs.Prelude.{ℕ, nat_le, List, length, Option, None, if◌then◌else◌}
 use Rattle.ipdl_rules_p.specs.Instances.{IsProtocolInstance}
 use Rattle.ipdl_rules_p.specs.Matching as P
+use Rattle.ipdl_rules_r.specs.Expressions.{IsExpressionInstance, question_at}
+use Rattle.ipdl_rules_r.specs.Instances.{IsReactionInstance}
+use Rattle.ipdl_rules_r.specs.Matching as Q
+use Rattle.ipdl_rules_r.specs.TruthTests.{TruthRefusal, truth_refusal}
 use Rattle.ipdl_term.specs.Interpretations.{Signature}
 use Rattle.ipdl_term.specs.Rules.{Rule}
-use Rattle.ipdl_term.specs.Surroundings.{Surroundings}
-use Rattle.ipdl_term.specs.Terms.{Term, protocol_term}
+use Rattle.ipdl_term.specs.Rules as R
+use Rattle.ipdl_term.specs.Surroundings.{Surroundings, Condition}
+use Rattle.ipdl_term.specs.Terms.{Term, protocol_term, reaction_term, expression_term}
 
 -- the second term is what the rule makes of the first, where these symbols and surroundings are
 abbrev pub IsInstanceAt : Signature → Surroundings → Rule → (left right : Term) → Type 0
 IsInstanceAt sig around rule (protocol_term left) (protocol_term right) = IsProtocolInstance rule left right
+IsInstanceAt sig around rule (reaction_term left) (reaction_term right) = IsReactionInstance sig rule left right
+IsInstanceAt sig around rule (expression_term left) (expression_term right) =
+    IsExpressionInstance sig around.widths around.conditions rule left right
 IsInstanceAt _ _ _ _ _ = ⊥
 
 -- ---- answers
@@ -29,7 +37,29 @@ answer_of_protocols P.other_shape = other_shape
 answer_of_protocols (P.failing number) = failing number
 answer_of_protocols (P.gives right) = gives (protocol_term right)
 
+-- what a rule for reactions answers, of terms
+abbrev pub answer_of_reactions : Q.Answer → Answer
+answer_of_reactions Q.other_shape = other_shape
+answer_of_reactions (Q.failing number) = failing number
+answer_of_reactions (Q.gives right) = gives (reaction_term right)
+
+-- What a rule for expressions answers, whatever stands there: its own expression, where so many conditions are around.
+-- Whether that is equal is asked last of all.
+abbrev pub expression_answer : List Condition → Rule → Answer
+expression_answer conditions (R.table k e) =
+    if nat_le k (length conditions) then gives (expression_term e) else failing 1
+expression_answer conditions _ = other_shape
+
 -- what the rule answers to a term there
 abbrev pub answer_at : Signature → Surroundings → Rule → (left : Term) → Answer
 answer_at sig around rule (protocol_term left) = answer_of_protocols (P.answer rule left)
-answer_at _ _ _ _ = other_shape
+answer_at sig around rule (reaction_term left) = answer_of_reactions (Q.answer sig rule left)
+answer_at sig around rule (expression_term left) = expression_answer around.conditions rule
+
+-- ---- truth
+
+-- why a right side that is answered is not equal there; only the rules for expressions ask
+abbrev pub truth_at : Signature → Surroundings → Rule → (left : Term) → Option TruthRefusal
+truth_at sig around (R.table k e) (expression_term left) =
+    truth_refusal (question_at sig around.widths around.conditions k left e)
+truth_at _ _ _ _ = None

@@ -1,5 +1,5 @@
 -- Steps: from which whole term to which other one a step leads, and the tests that refuse a step, in their order.
-use Rattle.std.specs.Prelude.{◌≡◌, ℕ, ◌≤◌, nat_le, Bool, true, false, List, [], ◌∷◌, ◌++◌, length, Option, Some, None, is_some, option_map, if◌then◌else◌}
+use Rattle.std.specs.Prelude.{◌≡◌, ℕ, ◌≤◌, nat_le, Bool, true, false, ◌&&◌, List, [], ◌∷◌, ◌++◌, length, Option, Some, None, is_some, option_map, if◌then◌else◌}
 use Rattle.std.specs.Option.{option_or}
 use Rattle.ipdl_base.specs.Limits.{limit_number}
 use Rattle.ipdl_base.specs.declared.limit.Limit.{Limit}
@@ -16,7 +16,8 @@ use Rattle.ipdl_term.specs.Typing.{Scope, scope_of, HasInterface}
 use Rattle.ipdl_term.specs.declared.interface.Interface.{Interface}
 use Rattle.ipdl_typing.specs.Checks.{Failure, first_failure}
 use Rattle.ipdl_typing.specs.Interfaces.{interface_failures}
-use Rattle.ipdl_script.specs.Instances.{IsInstanceAt, Answer, other_shape, failing, gives, answer_at}
+use Rattle.ipdl_rules_r.specs.TruthTests.{TruthRefusal}
+use Rattle.ipdl_script.specs.Instances.{IsInstanceAt, Answer, other_shape, failing, gives, answer_at, truth_at}
 use Rattle.ipdl_script.specs.Settling.{unsettled_in_step, settled_step}
 
 -- what the steps of a theorem are checked against: the symbols, and the interface of its left protocol
@@ -51,10 +52,16 @@ settled_there x before step = settled_step (depth_at x before step) step
 
 -- ---- the relation
 
+-- whether a rule of this kind has a step back: at expressions there is none
+abbrev pub is_reversible : RuleKind → Bool
+is_reversible at_expressions = false
+is_reversible _ = true
+
 -- The two parts are the sides of the rule: the old one is the left side, or for `rev` the new one, which is written out.
 abbrev pub IsChange : Setting → Surroundings → Step → (old new : Term) → Type 0
 IsChange x there (plain place rule) old new = IsInstanceAt x.sig there rule old new
-IsChange x there (rev place rule term) old new = (new ≡ term) × IsInstanceAt x.sig there rule new old
+IsChange x there (rev place rule term) old new =
+    (new ≡ term) × (is_reversible (row_of rule).kind ≡ true) × IsInstanceAt x.sig there rule new old
 IsChange x there (invoke place name direction pairs) old new = ⊥
 
 -- the right side of the rule, which it makes of the other one
@@ -95,7 +102,8 @@ abbrev pub answer_to : Setting → Surroundings → Step → (part : Option Term
 answer_to x there (plain place rule) (Some part) =
     if is_of_kind (row_of rule).kind part then answer_at x.sig there rule part else other_shape
 answer_to x there (rev place rule term) (Some part) =
-    if is_of_kind (row_of rule).kind part then answer_at x.sig there rule term else other_shape
+    if is_reversible (row_of rule).kind && is_of_kind (row_of rule).kind part then answer_at x.sig there rule term
+    else other_shape
 answer_to x there _ _ = other_shape
 
 -- the whole term with the new part at the place, where there is one
@@ -114,6 +122,7 @@ pub data Refusal : Type 0 where
   not_result : Refusal
   ill_typed : Failure → Refusal
   over : Limit → Refusal
+  untrue : TruthRefusal → Refusal
 
 abbrev pub refused_unless : Bool → Refusal → Option Refusal
 refused_unless true refusal = None
@@ -164,11 +173,16 @@ depth_test after = limit_test Depth greatest_printed_depth (printed_depth after)
 abbrev pub type_test : Setting → (after : Protocol) → Option Refusal
 type_test x after = option_map ill_typed (first_failure (interface_failures x.sig x.interface after))
 
+-- the part at the place and the right side of the rule are not shown to be equal there
+abbrev pub truth_test : Setting → Surroundings → Step → (part : Option Term) → Answer → Option Refusal
+truth_test x there (plain place rule) (Some part) (gives right) = option_map untrue (truth_at x.sig there rule part)
+truth_test _ _ _ _ _ = None
+
 -- ---- all tests of a step
 
--- the tests in their order, of a settled step, the part at its place, and what its rule answers
-abbrev pub tests_of : Setting → Protocol → Step → (unsettled : Option ℕ) → (part : Option Term) → Answer → List (Option Refusal)
-tests_of x before step unsettled part answered =
+-- the tests in their order, of a settled step, what is around its place and the part there, and what its rule answers
+abbrev pub tests_of : Setting → Protocol → Surroundings → Step → (unsettled : Option ℕ) → (part : Option Term) → Answer → List (Option Refusal)
+tests_of x before there step unsettled part answered =
     let after = changed before step answered in
     place_test part
     ∷ variable_test unsettled
@@ -180,6 +194,7 @@ tests_of x before step unsettled part answered =
     ∷ channels_test after
     ∷ depth_test after
     ∷ type_test x after
+    ∷ truth_test x there step part answered
     ∷ []
 
 -- the part at the place of a step
@@ -191,7 +206,7 @@ answered_there x before step = answer_to x (around_step x before step) (settled_
 
 abbrev pub step_tests : Setting → Protocol → Step → List (Option Refusal)
 step_tests x before step =
-    tests_of x before (settled_there x before step)
+    tests_of x before (around_step x before step) (settled_there x before step)
     (unsettled_in_step (depth_at x before step) step) (part_of before step) (answered_there x before step)
 
 -- the first refusal of some tests

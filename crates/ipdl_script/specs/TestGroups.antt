@@ -1,20 +1,24 @@
 -- The tests of a step in groups, as the calls make them: those of the part at the place, and those of the new whole term.
-use Rattle.std.specs.Prelude.{◌≡◌, ℕ, option_map, List, [], ◌∷◌, Option, None, Result, Ok, Err, IsSomeAnd}
+use Rattle.std.specs.Prelude.{◌≡◌, ℕ, Bool, true, false, option_map, List, [], ◌∷◌, Option, None, Result, Ok, Err, IsSomeAnd}
 use Rattle.std.specs.Option.{option_or}
 use Rattle.ipdl_chain.specs.Chains.{last_of}
-use Rattle.ipdl_rules_p.specs.Matching as P
+use Rattle.ipdl_rules_p.specs.Room as P
+use Rattle.ipdl_rules_r.specs.Room as Q
 use Rattle.ipdl_script.specs.Answers.{TellsRefusal, TellsWrong}
-use Rattle.ipdl_script.specs.Instances.{Answer, other_shape, answer_of_protocols}
+use Rattle.ipdl_script.specs.Instances.{Answer, other_shape, answer_at}
 use Rattle.ipdl_script.specs.EndPlaces.{differing_place}
 use Rattle.ipdl_script.specs.Scripts.{Wrong, right_side, wrong_ends, wrong_in_script, links_of_script}
-use Rattle.ipdl_script.specs.Settling.{unsettled_in_step}
-use Rattle.ipdl_script.specs.Steps.{Setting, Refusal, depth_at, settled_there, place_test, variable_test, match_test, side_test, size_test, result_test, nodes_test, channels_test, depth_test, type_test, part_of, answered_there, first_refusal, place_of, after_step}
+use Rattle.ipdl_script.specs.Settling.{unsettled_in_step, settled_rule}
+use Rattle.ipdl_script.specs.Steps.{Setting, Refusal, is_of_kind, depth_at, around_step, settled_there, place_test, variable_test, match_test, side_test, size_test, result_test, nodes_test, channels_test, depth_test, type_test, truth_test, part_of, answered_there, first_refusal, place_of, after_step}
 use Rattle.ipdl_script.specs.declared.fault.ScriptFault.{ScriptFault}
 use Rattle.ipdl_script.specs.declared.fault.StepFault.{StepFault}
+use Rattle.ipdl_term.specs.Interpretations.{Signature}
 use Rattle.ipdl_term.specs.Places.{AreOfOneKind, protocol_or, term_with}
-use Rattle.ipdl_term.specs.Rules.{Rule}
+use Rattle.ipdl_term.specs.Rules.{Rule, row_of}
+use Rattle.ipdl_term.specs.Rules as R
 use Rattle.ipdl_term.specs.Steps.{Step, plain}
-use Rattle.ipdl_term.specs.Terms.{Protocol, Term, protocol_term}
+use Rattle.ipdl_term.specs.Surroundings.{Surroundings}
+use Rattle.ipdl_term.specs.Terms.{Protocol, nil, Term, protocol_term, reaction_term, expression_term}
 
 -- a call passes where nothing refuses, and else tells the refusal
 abbrev pub AnswersTest : {X : Type 0} → Result X StepFault → Option Refusal → Type 0
@@ -28,10 +32,17 @@ AnswersScripts (Err fault) wrong = TellsWrong fault wrong
 
 -- ---- the answer of a rule
 
--- What a rule for protocols answers to its left side, where this part stands at the place. It asks both to be protocols.
-abbrev pub protocol_answer : Rule → (left part : Term) → Answer
-protocol_answer rule (protocol_term left) (protocol_term part) = answer_of_protocols (P.answer rule left)
-protocol_answer rule _ _ = other_shape
+-- what a rule answers to the term that is written out, where this part stands at the place
+abbrev pub written_answer : Signature → Surroundings → Rule → (written part : Term) → Answer
+written_answer sig there rule (protocol_term left) (protocol_term part) = answer_at sig there rule (protocol_term left)
+written_answer sig there rule (reaction_term left) (reaction_term part) = answer_at sig there rule (reaction_term left)
+written_answer sig there rule _ _ = other_shape
+
+-- the numbers of the variables of a rule, settled under so many binders, and of its left side have 32 bits
+abbrev pub HasRoomFor : (depth : ℕ) → Rule → (left : Term) → Type 0
+HasRoomFor depth rule (protocol_term left) = P.HasRoom rule left
+HasRoomFor depth rule (reaction_term left) = Q.HasRoom (settled_rule depth rule) left
+HasRoomFor depth rule (expression_term left) = Unit {0}
 
 -- what refuses an answer: no left side, a side condition, or too large a right side
 abbrev pub answer_refusal : Answer → Option Refusal
@@ -68,10 +79,22 @@ pub record IsChanged (x : Setting) (before : Protocol) (step : Step) (new : Term
   pub kind : IsSomeAnd (part_of before step) (λ old. AreOfOneKind old new)
   pub whole : after_step x before step ≡ protocol_or before (term_with (protocol_term before) (place_of step) new)
 
--- the step goes from the left side of its rule to the right one
-abbrev pub IsPlain : Step → Type 0
-IsPlain (plain place rule) = Unit {0}
-IsPlain _ = ⊥
+-- the test of the truth
+abbrev pub truth_there : Setting → Protocol → Step → Option Refusal
+truth_there x before step =
+    truth_test x (around_step x before step) (settled_there x before step) (part_of before step) (answered_there x before step)
+
+-- ---- types
+
+-- whether each right side of the rule has the type of its left side: so it is of the rules for protocols but `subsume`
+abbrev pub keeps_type : Rule → Bool
+keeps_type (R.subsume c w) = false
+keeps_type rule = is_of_kind (row_of rule).kind (protocol_term nil)
+
+-- the step goes from the left side to the right one of such a rule
+abbrev pub KeepsType : Step → Type 0
+KeepsType (plain place rule) = keeps_type rule ≡ true
+KeepsType _ = ⊥
 
 -- ---- scripts
 

@@ -1,8 +1,9 @@
 -- What the types of the program stand for: settings, theorems, sides, why a step is refused, and what is wrong.
 use Rattle.std.specs.Prelude.{map}
 use Rattle.ipdl_forms.specs.declared.document.TheoremItem.{TheoremItem}
+use Rattle.ipdl_rules_r.specs.TruthTests.{abstract_symbol, too_large, too_wide, differ_at}
 use Rattle.ipdl_script.specs.Scripts.{Theorem, Side, left_side, right_side, Wrong, wrong_step, wrong_ends}
-use Rattle.ipdl_script.specs.Steps.{Setting, Refusal, no_place, no_variable, no_match, side_fails, not_result, ill_typed}
+use Rattle.ipdl_script.specs.Steps.{Setting, Refusal, no_place, no_variable, no_match, side_fails, not_result, ill_typed, untrue}
 use Rattle.ipdl_script.specs.declared.fault.Cause.{Cause}
 use Rattle.ipdl_script.specs.declared.fault.Cause.TheVariants as C
 use Rattle.ipdl_script.specs.declared.fault.Side.{Side as HeldSide}
@@ -40,6 +41,10 @@ refusal_of C.NoMatch = no_match
 refusal_of (C.Side number) = side_fails number
 refusal_of C.NotResult = not_result
 refusal_of (C.IllTyped ill) = ill_typed (failure_of ill)
+refusal_of (C.Abstract symbol) = untrue (abstract_symbol symbol)
+refusal_of (C.Large bits) = untrue (too_large bits)
+refusal_of (C.TooWide bits) = untrue (too_wide bits)
+refusal_of (C.NotSame valuation) = untrue (differ_at valuation)
 
 abbrev pub wrong_of : HeldWrong → Wrong
 wrong_of (W.At side step cause) = wrong_step (side_of side) step (refusal_of cause)

@@ -4,6 +4,7 @@
 ghost use Rattle.std.specs.Prelude.{◌≡◌, ◌↔◌, ℕ, None, Some};
 ghost use Rattle.std.specs.List.{AllByRecursion};
 ghost use Rattle.ipdl_chain.specs.Chains.{Chain, last_of, terms_of};
+ghost use Rattle.ipdl_rules_r.specs.Tables.{TablesAreWhole};
 ghost use Rattle.ipdl_script.specs.Meanings.{AreEqual, EachTwo, IsMarked, MeansMark};
 ghost use Rattle.ipdl_script.specs.Scripts.{IsChain, IsFirstWrong, Theorem, Wrong, chain_of_scripts, first_wrong};
 ghost use Rattle.ipdl_script.specs.Steps.{Setting};
@@ -43,16 +44,17 @@ pub fn chain_is_marked()
 {}
 
 /// Each two neighbours of a chain between protocols of the interface mean what their mark says: they
-/// are equal there.
+/// are equal there, where each table has a value for each argument.
 pub fn chains_mean()
-    ensures { (x : Setting) (so_far : ℕ) (t : Theorem) (chain : Chain) → IsChain x so_far t chain →
+    ensures { (x : Setting) → TablesAreWhole x.sig → (so_far : ℕ) (t : Theorem) (chain : Chain) → IsChain x so_far t chain →
         HasInterface x.sig x.interface t.left → HasInterface x.sig x.interface t.right →
         EachTwo (MeansMark x) chain.first chain.links }
 {}
 
-/// The two protocols of a theorem that has a chain are equal.
+/// The two protocols of a theorem that has a chain are equal, where each table has a value for each
+/// argument.
 pub fn sides_are_equal()
-    ensures { (x : Setting) (so_far : ℕ) (t : Theorem) (chain : Chain) → IsChain x so_far t chain →
+    ensures { (x : Setting) → TablesAreWhole x.sig → (so_far : ℕ) (t : Theorem) (chain : Chain) → IsChain x so_far t chain →
         HasInterface x.sig x.interface t.left → HasInterface x.sig x.interface t.right →
         AreEqual x t.left t.right }
 {}

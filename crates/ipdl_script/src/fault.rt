@@ -4,7 +4,7 @@ ghost use Rattle.std.specs.Prelude.{◌≡◌};
 ghost use Rattle.ipdl_script.specs.declared.fault.ScriptFault.TheVariants.{Memory as NoRoom};
 ghost use Rattle.ipdl_script.specs.declared.fault.StepFault.TheVariants.{Memory};
 
-use ipdl_base::{Limit, NoMemory, Path};
+use ipdl_base::{Bits, Limit, List, NoMemory, Path};
 use ipdl_typing::Ill;
 
 /// A side of a theorem, whose script starts at its protocol.
@@ -30,6 +30,18 @@ pub enum Cause {
     NotResult,
     /// The new whole term is not well typed at the theorem's interface.
     IllTyped(Ill),
+    /// The truth that the rule asks for: an abstract symbol occurs, and this is the number of the
+    /// first.
+    Abstract { symbol: u32 },
+    /// The widths of all subexpressions add up to more than 8,192: to this number, or to more where
+    /// it is the last `u64`.
+    Large { bits: u64 },
+    /// The widths of the free variables add up to more than 12: to this number.
+    TooWide { bits: u64 },
+    /// The two expressions differ where the conditions are met, first at these values of the free
+    /// variables: the depth of each, which is 0 for that of the outermost binder, and its value, the
+    /// outermost first.
+    NotSame { valuation: List<(u32, Bits)> },
 }
 
 /// Why a step gives no term.

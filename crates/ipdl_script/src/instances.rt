@@ -1,7 +1,8 @@
 //! Laws of the instances of rules at places, and of settled steps.
 
-ghost use Rattle.std.specs.Prelude.{◌≡◌, ◌↔◌, ℕ, List, Some, map};
-ghost use Rattle.ipdl_script.specs.Instances.{IsInstanceAt, answer_at, gives};
+ghost use Rattle.std.specs.Prelude.{◌≡◌, ◌↔◌, ℕ, List, None, Some, map};
+ghost use Rattle.ipdl_rules_r.specs.Tables.{TablesAreWhole};
+ghost use Rattle.ipdl_script.specs.Instances.{IsInstanceAt, answer_at, gives, truth_at};
 ghost use Rattle.ipdl_script.specs.Settling.{settled_argument, settled_rule};
 ghost use Rattle.ipdl_term.specs.Equality.{Equal};
 ghost use Rattle.ipdl_term.specs.Interpretations.{Signature};
@@ -11,19 +12,21 @@ ghost use Rattle.ipdl_term.specs.Surroundings.{Surroundings, around, outermost};
 ghost use Rattle.ipdl_term.specs.Terms.{Channel, Protocol, Term, protocol_term};
 ghost use Rattle.ipdl_term.specs.Typing.{Scope, Typed};
 
-/// A term is the right side of a rule for a left one exactly where the rule's answer gives it.
+/// A term is the right side of a rule for a left one exactly where the rule's answer gives it and
+/// the truth that the rule asks for holds.
 pub fn instance_exactly()
     ensures { (sig : Signature) (s : Surroundings) (rule : Rule) (left right : Term) →
-        IsInstanceAt sig s rule left right ↔ (answer_at sig s rule left ≡ gives right) }
+        IsInstanceAt sig s rule left right ↔
+        ((answer_at sig s rule left ≡ gives right) × (truth_at sig s rule left ≡ None)) }
 {}
 
-/// A left side of a rule that is replaced, at its place in a typed protocol, by the right side
-/// leaves the whole equal, and so typed.
+/// Two typed protocols, of which the one comes from the other by a left side of a rule that is
+/// replaced, at its place, by the right side, are equal.
 pub fn instance_is_equal()
-    ensures { (sig : Signature) (scope : Scope) (written : List Channel)
+    ensures { (sig : Signature) → TablesAreWhole sig → (scope : Scope) (written : List Channel)
         (p q : Protocol) (place : List ℕ) (rule : Rule) (left right : Term) →
         let whole = protocol_term p in
-        Typed sig scope p written →
+        Typed sig scope p written → Typed sig scope q written →
         term_at whole place ≡ Some left → term_with whole place right ≡ protocol_term q →
         IsInstanceAt sig (around (outermost scope) whole place) rule left right →
         Equal sig scope written p q }

@@ -10,14 +10,18 @@ mod fitting;
 mod following;
 mod hidden;
 mod instances;
+mod limits;
 mod marks;
 mod new_part;
 mod setting;
+mod sides;
 mod spot;
 mod stepping;
 mod steps;
+mod tables;
 mod theorem;
 mod trail;
+mod truth;
 mod variables;
 mod worked;
 
@@ -37,6 +41,6 @@ pub use stepping::{GREATEST_DEPTH, take_step};
 pub use steps::{first_refusal_is_told, one_result, step_exactly, step_is_equal};
 pub use theorem::{Book, check_theorem};
 pub use worked::{
-    back_and_forward, each_cause, ends_that_differ, meeting_in_the_middle, one_exchange,
-    place_below_a_flip,
+    back_and_forward, each_cause, ends_that_differ, masked_coin, meeting_in_the_middle,
+    one_exchange, place_below_a_flip, table_in_an_arm,
 };

@@ -1,6 +1,6 @@
 //! The place of a step in the current term.
 
-ghost use Rattle.std.specs.Prelude.{◌≡◌, ◌≤◌, Some, IfOk, length};
+ghost use Rattle.std.specs.Prelude.{◌≡◌, ◌<◌, Some, IfOk, length};
 ghost use Rattle.ipdl_cursor.specs.Views.{part_of};
 ghost use Rattle.ipdl_script.specs.Fitting.{WholeFits};
 ghost use Rattle.ipdl_script.specs.Steps.{around_place, place_test};
@@ -38,7 +38,7 @@ pub(crate) fn find<'a>(
         term_at (protocol_term (protocol_of before.now)) path.now ≡ Some (part_of spot.part)) }
     ensures depth { IfOk result (λ spot.
         spot.depth ≡ length (around_place (setting_of _setting.now) (protocol_of before.now) path.now).widths) }
-    ensures few { IfOk result (λ spot. spot.depth ≤ most_nodes) }
+    ensures few { IfOk result (λ spot. spot.depth < most_nodes) }
 {
     match locate(before, path) {
         Some(found) => Ok(Spot {

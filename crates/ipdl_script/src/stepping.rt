@@ -1,23 +1,25 @@
 //! One step: from a whole term to the one that it makes of it.
 
-ghost use Rattle.std.specs.Prelude.{◌≡◌, ◌≤◌, ◌<◌, ◌^◌, ◌-◌, [], ◌∷◌, ℕ, IfOk, OnOk};
+ghost use Rattle.std.specs.Option.{option_or};
+ghost use Rattle.std.specs.Prelude.{◌≡◌, [], ◌∷◌, None, true, IfOk, OnOk};
 ghost use Rattle.ipdl_script.specs.Answers.{StepsFrom};
 ghost use Rattle.ipdl_script.specs.Fitting.{StepFits, WholeFits};
-ghost use Rattle.ipdl_script.specs.Steps.{KeepsLimits, channels_test, depth_test, first_refusal, limit_test, nodes_test, place_of, type_test};
-ghost use Rattle.ipdl_script.specs.TestGroups.{AnswersTest, IsPlain, whole_refusal};
+ghost use Rattle.ipdl_script.specs.Steps.{KeepsLimits, after_step, channels_test, depth_test, first_refusal, nodes_test, place_of, type_test};
+ghost use Rattle.ipdl_script.specs.TestGroups.{AnswersTest, KeepsType, keeps_type, part_refusal, truth_there, whole_refusal};
 ghost use Rattle.ipdl_script.specs.Views.{setting_of};
-ghost use Rattle.ipdl_term.specs.Sizes.{saturated};
-ghost use Rattle.ipdl_term.specs.Steps.{step_of};
+ghost use Rattle.ipdl_term.specs.Steps.{rule_of, step_of};
 ghost use Rattle.ipdl_term.specs.Typing.{HasInterface};
 ghost use Rattle.ipdl_term.specs.Views.{protocol_of};
 ghost use Rattle.ipdl_typing.specs.Signatures.{signature_of};
 
 use crate::fault::{Cause, StepFault};
+use crate::limits::check_limit;
 use crate::new_part::new_part;
 use crate::setting::Setting;
+use crate::truth::check_truth;
 use ipdl_base::{Limit, Path};
 use ipdl_cursor::replaced;
-use ipdl_term::{Proto, Step, measure};
+use ipdl_term::{Proto, Rule, Step, measure};
 use ipdl_typing::{TypeFault, check_proto};
 use std::alloc::Global;
 
@@ -25,20 +27,6 @@ use std::alloc::Global;
 pub const GREATEST_DEPTH: u64 = 190;
 
 // ---- the new whole term
-
-// Checks that a count is within a limit.
-#[tactic(auto, using(crate::proofs::WholeTerms::limit_tests))]
-fn check_limit(limit: Limit, most: u64, count: u64) -> Result<(), StepFault>
-    requires { most < 2 ^ 64 - 1 }
-    ensures test { (n : ℕ) → count ≡ saturated n → AnswersTest result (limit_test limit most n) }
-    ensures kept { (n : ℕ) → count ≡ saturated n → OnOk result (n ≤ most) }
-{
-    if count > most {
-        Err(StepFault::Over(limit))
-    } else {
-        Ok(())
-    }
-}
 
 // Checks how many nodes and assignments there are, and how deep the parentheses nest in print.
 fn check_extent(after: &Proto) -> Result<(), StepFault>
@@ -65,22 +53,55 @@ fn check_type(alloc: Global, setting: &Setting<'_>, after: &Proto) -> Result<(),
     }
 }
 
-// Checks the type after the step. A step from the left side of a rule to the right one keeps it.
+// Whether each right side of the rule has the type of its left side.
+fn keeps_type(rule: &Rule) -> bool
+    ensures { result ≡ keeps_type (rule_of rule.now) }
+{
+    matches!(
+        rule,
+        Rule::Comm
+            | Rule::Assocl
+            | Rule::Assocr
+            | Rule::Unit
+            | Rule::Newswap
+            | Rule::Scope
+            | Rule::Rename(_)
+            | Rule::Absorb
+            | Rule::Fold(_)
+            | Rule::Subst(_)
+            | Rule::Drop
+            | Rule::Diverge
+            | Rule::Shape
+    )
+}
+
+// Whether the step keeps the type: from the left side of such a rule to the right one.
+fn step_keeps_type(step: &Step) -> bool
+    ensures { result ≡ true → KeepsType (step_of step.now) }
+{
+    match step {
+        Step::Plain { rule, .. } => keeps_type(rule),
+        Step::Rev { .. } | Step::Invoke { .. } => false,
+    }
+}
+
+// Checks the type after the step, unless the step keeps it.
 fn check_type_after(
     alloc: Global,
     setting: &Setting<'_>,
     step: &Step,
     after: &Proto,
 ) -> Result<(), StepFault>
-    requires { IsPlain (step_of step.now) →
+    requires { KeepsType (step_of step.now) →
         HasInterface (signature_of setting.now.sig.now) setting.now.interface.now (protocol_of after.now) }
     ensures test { AnswersTest result (type_test (setting_of setting.now) (protocol_of after.now)) }
     ensures typed { OnOk result
         (HasInterface (signature_of setting.now.sig.now) setting.now.interface.now (protocol_of after.now)) }
 {
-    match step {
-        Step::Plain { .. } => Ok(()),
-        Step::Rev { .. } | Step::Invoke { .. } => check_type(alloc, setting, after),
+    if step_keeps_type(step) {
+        Ok(())
+    } else {
+        check_type(alloc, setting, after)
     }
 }
 
@@ -91,7 +112,7 @@ fn check_whole(
     step: &Step,
     after: &Proto,
 ) -> Result<(), StepFault>
-    requires { IsPlain (step_of step.now) →
+    requires { KeepsType (step_of step.now) →
         HasInterface (signature_of setting.now.sig.now) setting.now.interface.now (protocol_of after.now) }
     ensures test { AnswersTest result (whole_refusal (setting_of setting.now) (protocol_of after.now)) }
     ensures fits { OnOk result (WholeFits (setting_of setting.now) (protocol_of after.now)) }
@@ -100,20 +121,44 @@ fn check_whole(
     check_type_after(alloc, setting, step, after)
 }
 
+// Checks both, and then the truth that the rule asks for.
+fn check_after(
+    alloc: Global,
+    setting: &Setting<'_>,
+    before: &Proto,
+    step: &Step,
+    after: &Proto,
+) -> Result<(), StepFault>
+    requires whole { WholeFits (setting_of setting.now) (protocol_of before.now) }
+    requires passed { part_refusal (setting_of setting.now) (protocol_of before.now) (step_of step.now) ≡ None }
+    requires after { after_step (setting_of setting.now) (protocol_of before.now) (step_of step.now)
+        ≡ protocol_of after.now }
+    ensures test { AnswersTest result (option_or (whole_refusal (setting_of setting.now) (protocol_of after.now))
+        (truth_there (setting_of setting.now) (protocol_of before.now) (step_of step.now))) }
+    ensures fits { OnOk result (WholeFits (setting_of setting.now) (protocol_of after.now)) }
+{
+    check_whole(alloc, setting, step, after)?;
+    check_truth(alloc, setting, before, step)
+}
+
 // The term, if it passes them.
 fn accepted(
     alloc: Global,
     setting: &Setting<'_>,
+    before: &Proto,
     step: &Step,
     after: Proto,
 ) -> Result<Proto, StepFault>
-    requires { IsPlain (step_of step.now) →
-        HasInterface (signature_of setting.now.sig.now) setting.now.interface.now (protocol_of after) }
-    ensures test { AnswersTest result (whole_refusal (setting_of setting.now) (protocol_of after)) }
+    requires whole { WholeFits (setting_of setting.now) (protocol_of before.now) }
+    requires passed { part_refusal (setting_of setting.now) (protocol_of before.now) (step_of step.now) ≡ None }
+    requires after { after_step (setting_of setting.now) (protocol_of before.now) (step_of step.now)
+        ≡ protocol_of after }
+    ensures test { AnswersTest result (option_or (whole_refusal (setting_of setting.now) (protocol_of after))
+        (truth_there (setting_of setting.now) (protocol_of before.now) (step_of step.now))) }
     ensures same { IfOk result (λ whole. protocol_of whole ≡ protocol_of after) }
     ensures fits { IfOk result (λ whole. WholeFits (setting_of setting.now) (protocol_of whole)) }
 {
-    match check_whole(alloc, setting, step, &after) {
+    match check_after(alloc, setting, before, step, &after) {
         Ok(()) => Ok(after),
         Err(fault) => Err(fault),
     }
@@ -133,7 +178,7 @@ fn path_of(step: &Step) -> &Path
 /// The whole term to which the step leads from the term before it. Its tests are made in this order,
 /// and the first that fails is told: the place, the outer variables, the shape of the rule's left
 /// side, its side conditions, the size of its right side, for `rev` the part at the place, the nodes,
-/// the channels and the depth of the new whole term, and its type.
+/// the channels and the depth of the new whole term, its type, and the truth that the rule asks for.
 pub fn take_step(
     alloc: Global,
     setting: &Setting<'_>,
@@ -147,5 +192,5 @@ pub fn take_step(
 {
     let part = new_part(alloc, setting, before, step)?;
     let after = replaced(alloc, before, path_of(step), part)?;
-    accepted(alloc, setting, step, after)
+    accepted(alloc, setting, before, step, after)
 }

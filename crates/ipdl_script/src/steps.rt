@@ -1,6 +1,7 @@
 //! Laws of steps: the relation against the tests, one result, and which refusal is told.
 
 ghost use Rattle.std.specs.Prelude.{◌≡◌, ◌↔◌, ◌∷◌, ◌++◌, List, Option, None, Some};
+ghost use Rattle.ipdl_rules_r.specs.Tables.{TablesAreWhole};
 ghost use Rattle.ipdl_script.specs.Meanings.{AreEqual};
 ghost use Rattle.ipdl_script.specs.Steps.{AllPass, IsStep, Refusal, Setting, after_step, step_refusal, step_tests};
 ghost use Rattle.ipdl_term.specs.Steps.{Step};
@@ -29,9 +30,11 @@ pub fn first_refusal_is_told()
         (step_tests x before step ≡ passed ++ Some refusal ∷ later) }
 {}
 
-/// A step leads from a whole term of the theorem's interface to an equal one.
+/// A step leads from a whole term of the theorem's interface to an equal one, where each table has a
+/// value for each argument.
 pub fn step_is_equal()
-    ensures { (x : Setting) (before : Protocol) (step : Step) (after : Protocol) →
+    ensures { (x : Setting) → TablesAreWhole x.sig →
+        (before : Protocol) (step : Step) (after : Protocol) →
         HasInterface x.sig x.interface before → IsStep x before step after →
         AreEqual x before after }
 {}

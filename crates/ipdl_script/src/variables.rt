@@ -1,18 +1,18 @@
 //! The outer variables of a step: the first one that has no binder around the place, and the term
 //! that is written out with all of them settled.
 
-ghost use Rattle.std.specs.Prelude.{◌≡◌, ◌≤◌, ◌+◌, ◌^◌, ◌<◌, IfOk};
+ghost use Rattle.std.specs.Prelude.{◌≡◌, ◌≤◌, ◌+◌, ◌^◌, ◌<◌, IfOk, None};
 ghost use Rattle.ipdl_script.specs.Settling.{unsettled_in_arguments};
 ghost use Rattle.ipdl_script.specs.Steps.{variable_test};
 ghost use Rattle.ipdl_script.specs.TestGroups.{AnswersTest};
 ghost use Rattle.ipdl_term.specs.Rules.{rule_arguments};
 ghost use Rattle.ipdl_term.specs.Sizes.{most_nodes, greatest_in_term, term_binders};
 ghost use Rattle.ipdl_term.specs.Steps.{rule_of};
-ghost use Rattle.ipdl_term.specs.Variables.{settled_term, unsettled_number};
-ghost use Rattle.ipdl_term.specs.Views.{term_of};
+ghost use Rattle.ipdl_term.specs.Variables.{settled_expression, settled_term, unsettled_in_expression, unsettled_number};
+ghost use Rattle.ipdl_term.specs.Views.{expression_of, term_of};
 
 use crate::fault::{Cause, StepFault};
-use ipdl_term::{Part, Rule, SettleFault, boxed, settle, unsettled_in_expr};
+use ipdl_term::{Expr, Part, Rule, SettleFault, boxed, settle, settle_expr, unsettled_in_expr};
 use std::alloc::Global;
 
 // The first outer variable of the rule's arguments that has no binder, where so many are around the
@@ -37,6 +37,19 @@ pub(crate) fn check_arguments(depth: u32, rule: &Rule) -> Result<(), StepFault>
     match unsettled_argument(depth, rule) {
         None => Ok(()),
         Some(number) => Err(StepFault::Refused(Cause::NoVariable { number })),
+    }
+}
+
+// The argument with each outer variable as a variable, where all have binders.
+pub(crate) fn settled_argument(alloc: Global, depth: u32, e: &Expr) -> Result<Expr, StepFault>
+    requires { unsettled_in_expression depth (expression_of e.now) ≡ None }
+    ensures test { AnswersTest result None }
+    ensures value { IfOk result (λ settled.
+        expression_of settled ≡ settled_expression depth (expression_of e.now)) }
+{
+    match settle_expr(alloc, depth, e) {
+        Ok(settled) => Ok(settled),
+        Err(_) => Err(StepFault::Memory),
     }
 }
 

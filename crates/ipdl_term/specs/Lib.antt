@@ -7,6 +7,7 @@ pub mod Interpretations
 pub mod Valuations
 pub mod Reactions
 pub mod Protocols
+pub mod Networks
 pub mod Typing
 pub mod Contexts
 pub mod Counts

@@ -23,6 +23,11 @@ abbrev pub with_tape : Option Value → List Bool → Outcome
 with_tape None tape = None
 with_tape (Some v) tape = Some (v, tape)
 
+-- the value alone, none where the reaction is stuck
+abbrev pub outcome_value : Outcome → Option Value
+outcome_value None = None
+outcome_value (Some o) = Some o.0
+
 -- goes on with the value, on the rest of the tape, unless it is stuck
 abbrev pub continued : Outcome → (Value → List Bool → Outcome) → Outcome
 continued None next = None

@@ -34,14 +34,14 @@ pub use interface::{Interface, Port};
 pub use laws::{heading_of_word, rule_of_word_and_arguments, typed_is_within};
 pub use lift::{lift_expr, lift_react};
 pub use names::Names;
-pub use occurs::{has_flip, has_read, uses};
+pub use occurs::{has_flip, has_read, uses, uses_in_expr};
 pub use part::{Condition, Part};
 pub use plugging::{nest, plug};
 pub use protocol::Proto;
 pub use put::{TermFault, put_expr, put_react};
 pub use reaction::React;
 pub use sets::{free, must, outs, reads};
-pub use settling::{SettleFault, settle, unsettled_in_expr};
+pub use settling::{SettleFault, settle, settle_expr, unsettled_in_expr};
 pub use sizes::{
     Extent, channels, coins, depth, expr_nodes, measure, nodes, proto_nodes, react_nodes,
 };

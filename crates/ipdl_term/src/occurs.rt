@@ -47,6 +47,13 @@ pub fn uses(term: &React, variable: u32) -> bool
     react_uses(term, u64::from(variable))
 }
 
+/// Whether the variable occurs in the expression, its number being counted outside of it.
+pub fn uses_in_expr(term: &Expr, variable: u32) -> bool
+    ensures { result ≡ expression_uses (expression_of term.now) variable }
+{
+    expr_uses(term, u64::from(variable))
+}
+
 /// Whether the reaction has a `flip` in it, be it of no bits.
 pub fn has_flip(term: &React) -> bool
     ensures { result ≡ has_flip (reaction_of term.now) }

@@ -122,3 +122,19 @@ pub fn settle(alloc: Global, depth: u32, part: &Part) -> Result<Part, SettleFaul
         Err(_) => Err(SettleFault::Memory),
     }
 }
+
+/// The expression with each outer variable as a variable, where `depth` binders stand around the
+/// place. `NoVariable` exactly where one has no binder there, with the first such in preorder.
+#[tactic(auto, using(crate::proofs::ChangeFits::settle_fits, crate::proofs::ChangeLemmas::settled))]
+pub fn settle_expr(alloc: Global, depth: u32, term: &Expr) -> Result<Expr, SettleFault>
+    ensures settled { IfOk result (λ settled. expression_of settled ≡ settled_expression depth (expression_of term.now)) }
+    ensures no_variable { (n : ℕ) → (result ≡ Err (SettleFault.NoVariable n)) ↔ (unsettled_in_expression depth (expression_of term.now) ≡ Some n) }
+{
+    if let Some(number) = unsettled_in_expr(depth, term) {
+        return Err(SettleFault::NoVariable { number });
+    }
+    match changed_expr(alloc, &Change::Settle, u64::from(depth), term) {
+        Ok(term) => Ok(term),
+        Err(_) => Err(SettleFault::Memory),
+    }
+}

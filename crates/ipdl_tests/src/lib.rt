@@ -16,8 +16,6 @@ mod printing;
 #[cfg(test)]
 mod reading;
 #[cfg(test)]
-mod rules;
-#[cfg(test)]
 mod symbols;
 #[cfg(test)]
 mod terms;

@@ -15,17 +15,19 @@ use Rattle.ipdl_top.specs.Scripts.{is_built_rule, is_built_step, are_built_steps
 
 -- a rule with an instance is built
 built_rule : (sig : Signature) (there : Surroundings) (rule : Rule) (left right : Term) → IsInstanceAt sig there rule left right → is_built_rule rule ≡ true
-built_rule sig there R.comm left right is = refl
-built_rule sig there R.assocl left right is = refl
-built_rule sig there R.assocr left right is = refl
-built_rule sig there R.unit left right is = refl
-built_rule sig there R.newswap left right is = refl
-built_rule sig there R.scope left right is = refl
-built_rule sig there _ (protocol_term left) (protocol_term right) is = absurd is
-built_rule sig there _ (protocol_term left) (reaction_term right) is = absurd is
-built_rule sig there _ (protocol_term left) (expression_term right) is = absurd is
-built_rule sig there _ (reaction_term left) right is = absurd is
-built_rule sig there _ (expression_term left) right is = absurd is
+built_rule sig there R.tidy (protocol_term left) (protocol_term right) is = absurd is
+built_rule sig there R.tidy (reaction_term left) (reaction_term right) is = absurd is
+built_rule sig there R.tidy (expression_term left) (expression_term right) is = absurd is
+built_rule sig there R.tidy _ _ is = absurd is
+built_rule sig there (R.lin e) (protocol_term left) (protocol_term right) is = absurd is
+built_rule sig there (R.lin e) (reaction_term left) (reaction_term right) is = absurd is
+built_rule sig there (R.lin e) (expression_term left) (expression_term right) is = absurd is
+built_rule sig there (R.lin e) _ _ is = absurd is
+built_rule sig there R.shape (protocol_term left) (protocol_term right) is = absurd is
+built_rule sig there R.shape (reaction_term left) (reaction_term right) is = absurd is
+built_rule sig there R.shape (expression_term left) (expression_term right) is = absurd is
+built_rule sig there R.shape _ _ is = absurd is
+built_rule sig there _ left right is = refl
 
 -- settled arguments make no difference
 is_built_rule-settled : (depth : ℕ) (rule : Rule) → is_built_rule (settled_rule depth rule) ≡ is_built_rule rule
@@ -38,7 +40,7 @@ built_change : (x : Setting) (there : Surroundings) (depth : ℕ) (step : Step) 
 built_change x there depth (plain place rule) old new is =
     sym (is_built_rule-settled depth rule) ∙ built_rule x.sig there (settled_rule depth rule) old new is
 built_change x there depth (rev place rule term) old new is =
-    sym (is_built_rule-settled depth rule) ∙ built_rule x.sig there (settled_rule depth rule) new old is.1
+    sym (is_built_rule-settled depth rule) ∙ built_rule x.sig there (settled_rule depth rule) new old is.2
 built_change x there depth (invoke place name direction pairs) old new is = absurd is
 
 built_step : (x : Setting) (before : Protocol) (step : Step) (after : Protocol) → IsStep x before step after → is_built_step step ≡ true

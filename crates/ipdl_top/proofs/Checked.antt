@@ -20,7 +20,7 @@ use Rattle.ipdl_script.specs.declared.theorem.Book.{Book}
 use Rattle.ipdl_term.specs.Steps.{step_of}
 use Rattle.ipdl_term.specs.Views.{protocol_of}
 use Rattle.ipdl_top.proofs.Firsts.{no_first}
-use Rattle.ipdl_top.proofs.Networks.{network_named-found}
+use Rattle.ipdl_commands.proofs.Networks.{network_named-found}
 use Rattle.ipdl_top.proofs.Stops.{IsStop-first, IsStop-same}
 use Rattle.ipdl_top.proofs.Theorems.{none_mapped, length_refusal-short}
 use Rattle.ipdl_top.specs.Books.{held_claim}
@@ -64,7 +64,7 @@ held_text document theorem = claim_text document.sig (assumptions_in (document_o
 
 -- ---- something is wrong
 
-pub wrong_stop : (document : Held) (theorem : TheoremItem) (left right : ProtocolItem) (neighbours written : ℕ) (stop : Stop) → AreFound document theorem left right → IsStop stop (option_map (wrong_refusal theorem.name (map step_of theorem.left_steps) (map step_of theorem.right_steps)) (first_wrong (setting_at document.sig left.interface) neighbours (theorem_between theorem (protocol_of left.body) (protocol_of right.body)))) → IsStop stop (held_refusal document theorem neighbours written)
+pub wrong_stop : (document : Held) (theorem : TheoremItem) (left right : ProtocolItem) (neighbours written : ℕ) (stop : Stop) → AreFound document theorem left right → IsStop stop (option_map (wrong_refusal document.sig theorem.name (map step_of theorem.left_steps) (map step_of theorem.right_steps)) (first_wrong (setting_at document.sig left.interface) neighbours (theorem_between theorem (protocol_of left.body) (protocol_of right.body)))) → IsStop stop (held_refusal document theorem neighbours written)
 wrong_stop document theorem left right neighbours written stop found is =
     let assumptions = assumptions_in (document_of document).entries in
     let claim = found_claim document theorem left right in
@@ -85,7 +85,7 @@ checked_claim document theorem left right neighbours chain is None e written = c
 checked_claim document theorem left right neighbours chain is (Some claim) e written =
     subst (λ (found : Option Claim). claim_refusal document.sig assumptions neighbours written found ≡ length_refusal theorem.name (written + length (claim_text document.sig assumptions found))) (sym e)
     (no_first _ (length_refusal theorem.name (written + length (claim_text document.sig assumptions (Some (found_claim document theorem left right)))))
-    (none_mapped (wrong_refusal theorem.name (map step_of theorem.left_steps) (map step_of theorem.right_steps)) _ is.right))
+    (none_mapped (wrong_refusal document.sig theorem.name (map step_of theorem.left_steps) (map step_of theorem.right_steps)) _ is.right))
   where
     assumptions : List (List ℕ)
     assumptions = assumptions_in (document_of document).entries

@@ -1,9 +1,9 @@
 -- The protocols of a document that is spelled within the limits and typed: each is within the limits and typed at its
 -- interface, and so are both protocols of a theorem at the left one's.
-use Rattle.std.proofs.Common.{◌≡◌, ℕ, Bool, true, false, List, [], ◌∷◌, ◌++◌, Option, Some, sym, subst}
+use Rattle.std.proofs.Common.{◌≡◌, ℕ, Bool, true, false, List, [], ◌∷◌, ◌++◌, Option, Some, None, sym, subst}
 use Rattle.std.proofs.lemmas.Option.{same_Some}
 use Rattle.std.specs.List.{AllByRecursion}
-use Rattle.std.specs.Prelude.{bytes_eq, if◌then◌else◌}
+use Rattle.std.specs.Prelude.{IfSome, bytes_eq, if◌then◌else◌}
 use Rattle.ipdl_forms.specs.Documents.{Document, Entry, symbol_entry, protocol_entry, assumption_entry, theorem_entry}
 use Rattle.ipdl_forms.specs.Items.{SpellsDocument, AreEntries, nothing_earlier, earlier_with}
 use Rattle.ipdl_forms.specs.Limits.{IsEntryWithin, IsWithinLimits}
@@ -17,7 +17,7 @@ use Rattle.ipdl_typing.proofs.SameInterfaces.{HasInterface-same}
 use Rattle.ipdl_typing.specs.Interfaces.{HasEachNameOnce}
 use Rattle.ipdl_typing.specs.Signatures.{signature_of}
 use Rattle.ipdl_top.proofs.PortNames.{HasEachNameOnce-spelled}
-use Rattle.ipdl_top.specs.Lookups.{Network, network_named}
+use Rattle.ipdl_commands.specs.Lookups.{Network, network_named, IsTypedNetwork}
 use Rattle.ipdl_top.specs.Typed.{AreTyped, IsTypedDocument, HaveSamePorts}
 
 -- the body is within the limits and has the interface, which has no name twice
@@ -48,6 +48,12 @@ IsFitNetwork-named symbols (protocol_entry other interface body ∷ entries) nam
     (IsFitNetwork-named symbols entries name fits.1) n e
 IsFitNetwork-named symbols (assumption_entry other left right ∷ entries) name fits n e = IsFitNetwork-named symbols entries name fits n e
 IsFitNetwork-named symbols (theorem_entry other left right lefts rights ∷ entries) name fits n e = IsFitNetwork-named symbols entries name fits n e
+
+-- so it may be run
+pub IsTypedNetwork-named : (symbols : List Symbol) (entries : List Entry) (name : List ℕ) → AreFitNetworks symbols entries → (found : Option Network) → network_named entries name ≡ found → IfSome found (IsTypedNetwork symbols)
+IsTypedNetwork-named symbols entries name fits None e = tt
+IsTypedNetwork-named symbols entries name fits (Some n) e =
+    let fit = IsFitNetwork-named symbols entries name fits n e in record { typed = fit.typed; small = fit.limits.nodes }
 
 -- ---- documents
 

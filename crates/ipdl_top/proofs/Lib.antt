@@ -4,12 +4,12 @@ pub mod Named
 pub mod ItemTypes
 pub mod PortNames
 pub mod Fitting
+pub mod WholeTables
 pub mod Meanings
 pub mod Readiness
 pub mod Built
 pub mod Theorems
 pub mod Checked
-pub mod Networks
 pub mod ItemOffsets
 pub mod Spelled
 pub mod Counts
@@ -18,6 +18,7 @@ pub mod Owed
 pub mod Requests
 pub mod Checking
 pub mod Telling
+pub mod Running
 pub mod Replies
 pub mod SomeReply
 pub mod Accepted

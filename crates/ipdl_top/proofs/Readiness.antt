@@ -12,30 +12,32 @@ use Rattle.ipdl_forms.specs.Limits.{IsStepWithin, IsEntryWithin, IsWithinLimits}
 use Rattle.ipdl_forms.specs.Lists.{operand, operands}
 use Rattle.ipdl_forms.specs.Lookups.{protocol_named}
 use Rattle.ipdl_forms.specs.Scopes.{NameScope}
-use Rattle.ipdl_forms.specs.Steps.{Earlier, step_scope, SpellsTerm, SpellsStep, AreSteps}
+use Rattle.ipdl_forms.specs.Expressions.{SpellsExpression}
+use Rattle.ipdl_forms.specs.Steps.{Earlier, step_scope, SpellsTerm, SpellsArguments, SpellsRule, SpellsStep, AreSteps}
 use Rattle.ipdl_forms.specs.declared.document.Document.{Document as Held}
 use Rattle.ipdl_forms.specs.declared.document.Item.{Item}
 use Rattle.ipdl_forms.specs.declared.document.Item.TheVariants as I
 use Rattle.ipdl_forms.specs.declared.document.ProtocolItem.{ProtocolItem}
 use Rattle.ipdl_forms.specs.declared.document.TheoremItem.{TheoremItem}
-use Rattle.ipdl_script.proofs.Fits.{term_has_room}
-use Rattle.ipdl_script.specs.Fitting.{StepFits, IsTermWithin}
+use Rattle.ipdl_script.proofs.Fits.{argument_has_room, term_has_room}
+use Rattle.ipdl_script.specs.Fitting.{StepFits, AreArgumentsWithin, IsTermWithin}
 use Rattle.ipdl_script.specs.Ready.{setting_at, neighbours_in, HasFitSides, IsReady}
 use Rattle.ipdl_script.specs.declared.theorem.Book.{Book}
 use Rattle.ipdl_sig.specs.declared.symbol.Symbol.{Symbol}
-use Rattle.ipdl_term.specs.Rules.{RuleKind, at_reactions, at_expressions, at_protocols, row_of}
+use Rattle.ipdl_term.specs.Rules.{Rule, RuleKind, at_reactions, at_expressions, at_protocols, row_of, Argument, expression_argument, symbol_argument, number_argument, name_argument, path_argument, width_argument, rule_arguments}
 use Rattle.ipdl_term.specs.Steps.{Step, plain, rev, invoke, step_of}
-use Rattle.ipdl_term.specs.Terms.{Term, protocol_term, reaction_term, expression_term}
+use Rattle.ipdl_term.specs.Terms.{Expression, Term, protocol_term, reaction_term, expression_term}
 use Rattle.ipdl_term.specs.Views.{protocol_of}
-use Rattle.ipdl_term.specs.Within.{IsReactionWithin}
+use Rattle.ipdl_term.specs.Within.{IsExpressionWithin, IsReactionWithin}
 use Rattle.ipdl_term.specs.declared.step.Step.{Step as HeldStep}
 use Rattle.ipdl_tree.specs.Trees.{Located, Forest, no_trees, tree}
 use Rattle.ipdl_top.proofs.Fitting.{AreFitNetworks, IsFitNetwork-named, AreFitNetworks-spelled, HasInterface-across}
 use Rattle.ipdl_top.proofs.Named.{IsThere, HasSides, HaveSides, HaveSides-spelled}
-use Rattle.ipdl_top.proofs.Networks.{network_of, network_named-found}
-use Rattle.ipdl_top.proofs.Spelled.{IsReactionWithin-spelled, IsProtocolWithin-spelled}
+use Rattle.ipdl_commands.proofs.Networks.{network_named-found}
+use Rattle.ipdl_commands.specs.Views.{network_of}
+use Rattle.ipdl_top.proofs.Spelled.{IsExpressionWithin-spelled, IsReactionWithin-spelled, IsProtocolWithin-spelled}
 use Rattle.ipdl_top.specs.Books.{IsReadyItem}
-use Rattle.ipdl_top.specs.Lookups.{Network, network_named}
+use Rattle.ipdl_commands.specs.Lookups.{Network, network_named}
 use Rattle.ipdl_top.specs.Typed.{HaveSamePorts, IsTypedItem, AreTyped, IsTypedDocument}
 
 -- ---- steps
@@ -51,10 +53,30 @@ term_within scope at_reactions (reaction_term r) t none spells =
 term_within scope at_reactions (expression_term e) t none spells = absurd spells
 term_within scope at_expressions term t none spells = absurd spells
 
+expression_within : (scope : NameScope) (e : Expression) (t : Located) → scope.binders ≡ [] → SpellsExpression scope e t → IsExpressionWithin (length scope.symbols) 0 e
+expression_within scope e t none spells =
+    subst (λ (binders : List (List ℕ)). IsExpressionWithin (length scope.symbols) (length binders) e) none
+    (IsExpressionWithin-spelled scope e t spells)
+
+arguments_within : (scope : NameScope) (arguments : List Argument) (ts : Forest) → scope.binders ≡ [] → SpellsArguments scope arguments ts → AreArgumentsWithin (length scope.symbols) arguments
+arguments_within scope [] ts none spells = tt
+arguments_within scope (a ∷ more) no_trees none spells = absurd spells
+arguments_within scope (expression_argument binders e ∷ more) (tree t ts) none spells =
+    (expression_within scope e t none spells.0, arguments_within scope more ts none spells.1)
+arguments_within scope (symbol_argument f ∷ more) (tree t ts) none spells = arguments_within scope more ts none spells.1
+arguments_within scope (number_argument k ∷ more) (tree t ts) none spells = arguments_within scope more ts none spells.1
+arguments_within scope (name_argument c ∷ more) (tree t ts) none spells = arguments_within scope more ts none spells.1
+arguments_within scope (path_argument path ∷ more) (tree t ts) none spells = arguments_within scope more ts none spells.1
+arguments_within scope (width_argument w ∷ more) (tree t ts) none spells = arguments_within scope more ts none spells.1
+
+rule_within : (earlier : Earlier) (place : List ℕ) (rule : Rule) (t : Located) → SpellsRule (step_scope earlier) place rule t → AreArgumentsWithin (length earlier.symbols) (rule_arguments rule)
+rule_within earlier place rule t spells = arguments_within (step_scope earlier) (rule_arguments rule) _ refl spells.2
+
 step_fits : (earlier : Earlier) (step : Step) (t : Located) → SpellsStep earlier step t → IsStepWithin step → StepFits step
-step_fits earlier (plain place rule) t spells within = tt
+step_fits earlier (plain place rule) t spells within =
+    argument_has_room (length earlier.symbols) rule (rule_within earlier place rule t spells)
 step_fits earlier (rev place rule term) t spells within =
-    term_has_room (length earlier.symbols) term within
+    term_has_room (length earlier.symbols) rule term (rule_within earlier place rule (operand 0 t) spells.1) within
     (term_within (step_scope earlier) (row_of rule).kind term (operand 1 t) refl spells.2)
 step_fits earlier (invoke place name direction pairs) t spells within = tt
 

@@ -14,7 +14,7 @@ use Rattle.ipdl_forms.specs.declared.fault.DocFault.TheVariants as F
 use Rattle.ipdl_top.specs.declared.status.Status.TheVariants.{Accepted}
 use Rattle.ipdl_top.specs.Refusals.{misformed, over_at_byte}
 use Rattle.ipdl_top.specs.Replies.{tree_refusal, IsUnspelled, IsMisformed, IsOverLimit, IsTree, IsRefusedWithin, IsRefusedSource, IsDocument, IsRequestRefusal, IsAnswer, IsIll, IsRefusedDocument, IsReplyBy, IsReplyTo, IsReply}
-use Rattle.ipdl_top.specs.Requests.{Request, check, types}
+use Rattle.ipdl_top.specs.Requests.{Request, check, types, run_item}
 use Rattle.ipdl_top.specs.Statuses.{wrong, bad, over, Kind, kind_status, Refusal, Reply, refused, accepted}
 use Rattle.ipdl_top.specs.Transfers.{source_limit}
 use Rattle.ipdl_top.specs.Typed.{IsTypedDocument}
@@ -22,6 +22,7 @@ use Rattle.ipdl_top.proofs.Checking.{check_is_owed}
 use Rattle.ipdl_top.proofs.ItemTypes.{type_refusal-typed}
 use Rattle.ipdl_top.proofs.Owed.{IsOwed}
 use Rattle.ipdl_top.proofs.Requests.{same_request}
+use Rattle.ipdl_top.proofs.Running.{run_is_owed}
 use Rattle.ipdl_top.proofs.Telling.{types_is_owed}
 
 -- ---- choices
@@ -98,10 +99,12 @@ source_and_document d t bytes r (inr within) few document = within_and_document 
 pub request_is_owed : (request : Request) (d : Document) (t : Located) → IsOwed (IsRequestRefusal request d t) (IsAnswer request d)
 request_is_owed check d t = check_is_owed d t
 request_is_owed types d t = types_is_owed d t
+request_is_owed (run_item name tape order) d t = run_is_owed name tape d
 
 typed_answer : (request : Request) (d : Document) (text : List ℕ) → IsAnswer request d text → IsTypedDocument d
 typed_answer check d text answer = answer.typed
 typed_answer types d text answer = answer.typed
+typed_answer (run_item name tape order) d text answer = answer.typed
 
 ill_and_typed : (d : Document) (r : Refusal) → IsIll d r → IsTypedDocument d → ⊥
 ill_and_typed d r ill typed = none_and_some r (type_refusal-typed d typed) ill
@@ -146,4 +149,4 @@ one_reply words bytes r s (inl usage) (inl usage') = usage.1 ∙ sym usage'.1
 one_reply words bytes r s (inl usage) (inr (c, form, reply)) = absurd (usage.0 c form)
 one_reply words bytes r s (inr (c, form, reply)) (inl usage) = absurd (usage.0 c form)
 one_reply words bytes r s (inr (c, form, reply)) (inr (c', form', reply')) =
-    one_reply_to c bytes r s reply (subst (λ d. IsReplyTo d bytes s) (sym (same_request c c' (sym form ∙ form'))) reply')
+    one_reply_to c bytes r s reply (subst (λ d. IsReplyTo d bytes s) (sym (same_request words c c' form form')) reply')

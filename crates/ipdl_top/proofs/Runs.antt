@@ -6,7 +6,7 @@ use Rattle.ipdl_io.specs.Faults.{MayHaveRisen, DidNotRise}
 use Rattle.ipdl_top.specs.declared.status.Status.{Status}
 use Rattle.ipdl_top.specs.declared.status.Status.TheVariants.{Accepted, WrongStep, BadSource, Usage, ReadFault, WriteFault, Memory, OverLimit}
 use Rattle.ipdl_top.specs.Replies.{over_source, usage_reply, IsReplyTo, IsReply}
-use Rattle.ipdl_top.specs.Requests.{Request, request_words, AreOfNoForm}
+use Rattle.ipdl_top.specs.Requests.{Request, AskFor, AreOfNoForm}
 use Rattle.ipdl_top.specs.Runs.{IsVerdict, IsFinished, IsReplied, IsRepliedFront}
 use Rattle.ipdl_top.specs.Statuses.{wrong, bad, over, Kind, kind_status, Reply, reply_of}
 use Rattle.ipdl_top.specs.Transfers.{source_limit, Gave, GaveTooMany}
@@ -45,7 +45,7 @@ told_bytes : (left : Option (List ℕ)) (bytes given : List ℕ) → prepend_kno
 told_bytes None bytes given e = cc
 told_bytes (Some rest) bytes given e = (rest, refl, cc)
 
-pub IsPlanned-over : (request : Request) (words : List (List ℕ)) (left left' : Option (List ℕ)) → words ≡ request_words request → GaveTooMany left left' → IsPlanned words left OverLimit over_source.text
+pub IsPlanned-over : (request : Request) (words : List (List ℕ)) (left left' : Option (List ℕ)) → AskFor words request → GaveTooMany left left' → IsPlanned words left OverLimit over_source.text
 IsPlanned-over request words left left' form gave bytes e =
     let told = told_bytes left' bytes gave.0 (sym gave.2 ∙ e) in
     let long : length bytes ≡ length gave.0 + length told.0 = ap length told.2 ∙ length-append gave.0 told.0 in
@@ -60,7 +60,7 @@ all_bytes left (Some rest) bytes given gave at_end e =
     let nothing : told.0 ≡ rest = cc (told.1) in
     told.2 ∙ ap (λ more. given ++ more) (nothing ∙ at_end) ∙ append-nil given
 
-pub IsPlanned-within : (request : Request) (words : List (List ℕ)) (left left' : Option (List ℕ)) (given : List ℕ) (planned : Status) (text : List ℕ) → words ≡ request_words request → Gave left left' given → IsAtEnd left' → IsReplyTo request given (reply_of planned text) → IsPlanned words left planned text
+pub IsPlanned-within : (request : Request) (words : List (List ℕ)) (left left' : Option (List ℕ)) (given : List ℕ) (planned : Status) (text : List ℕ) → AskFor words request → Gave left left' given → IsAtEnd left' → IsReplyTo request given (reply_of planned text) → IsPlanned words left planned text
 IsPlanned-within request words left left' given planned text form gave at_end reply bytes e =
     let same : bytes ≡ given = all_bytes left left' bytes given gave at_end e in
     let P : List ℕ → Type 0 = λ all. IsReply words all (reply_of planned text) in

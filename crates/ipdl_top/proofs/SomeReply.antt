@@ -16,7 +16,7 @@ use Rattle.ipdl_forms.specs.declared.fault.DocFault.{DocFault}
 use Rattle.ipdl_forms.specs.declared.fault.FormCause.{FormCause}
 use Rattle.ipdl_top.specs.Refusals.{misformed, over_at_byte}
 use Rattle.ipdl_top.specs.Replies.{usage_reply, over_source, tree_refusal, IsTree, IsRefusedSource, IsDocument, IsRequestRefusal, IsAnswer, IsRefusedDocument, IsReplyBy, IsReplyTo, IsReply}
-use Rattle.ipdl_top.specs.Requests.{Request, check, types, request_words, AreOfNoForm}
+use Rattle.ipdl_top.specs.Requests.{Request, check, types, run_item, AskFor, AreOfNoForm}
 use Rattle.ipdl_top.specs.Statuses.{Refusal, Reply, refused, accepted}
 use Rattle.ipdl_top.specs.Transfers.{source_limit}
 use Rattle.ipdl_top.specs.Typed.{type_refusal, IsTypedDocument}
@@ -25,6 +25,7 @@ use Rattle.ipdl_top.proofs.ItemTypes.{IsTypedDocument-none}
 use Rattle.ipdl_top.proofs.Named.{HaveSides-spelled}
 use Rattle.ipdl_top.proofs.Owed.{IsThereOne}
 use Rattle.ipdl_top.proofs.Requests.{some_request_or_none}
+use Rattle.ipdl_top.proofs.Running.{run_is_there}
 use Rattle.ipdl_top.proofs.Telling.{types_is_there}
 
 -- some reply to a request
@@ -41,6 +42,7 @@ refused_source request bytes r is = (refused r, inl (r, is, refl))
 asked : (request : Request) (d : Document) (t : Located) (bytes : List ℕ) → IsDocument d t bytes → IsTypedDocument d → IsThereOne (IsRequestRefusal request d t) (IsAnswer request d)
 asked check d t bytes document typed = check_is_there d t (HaveSides-spelled d t document.spelled) typed
 asked types d t bytes document typed = types_is_there d t typed
+asked (run_item name tape order) d t bytes document typed = run_is_there name tape d typed
 
 typed_document : (request : Request) (d : Document) (t : Located) → IsTypedDocument d → IsThereOne (IsRequestRefusal request d t) (IsAnswer request d) → (reply : Reply) × IsReplyBy (IsRefusedDocument request d t) (IsAnswer request d) reply
 typed_document request d t typed (inl (r, refuses)) = (refused r, inl (r, inr (typed, refuses), refl))
@@ -110,9 +112,9 @@ all_bytes request bytes = by_length (cases_lt source_limit (length bytes))
 pub some_reply : (words : List (List ℕ)) (bytes : List ℕ) → (reply : Reply) × IsReply words bytes reply
 some_reply words bytes = by_words (some_request_or_none words)
   where
-    of_request : (request : Request) → words ≡ request_words request → HasReplyTo request bytes → (reply : Reply) × IsReply words bytes reply
+    of_request : (request : Request) → AskFor words request → HasReplyTo request bytes → (reply : Reply) × IsReply words bytes reply
     of_request request are (reply, is) = (reply, inr (request, are, is))
 
-    by_words : AreOfNoForm words ⊎ ((request : Request) × (words ≡ request_words request)) → (reply : Reply) × IsReply words bytes reply
+    by_words : AreOfNoForm words ⊎ ((request : Request) × AskFor words request) → (reply : Reply) × IsReply words bytes reply
     by_words (inl none) = (usage_reply, inl (none, refl))
     by_words (inr (request, are)) = of_request request are (all_bytes request bytes)

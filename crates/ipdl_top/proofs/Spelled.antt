@@ -15,7 +15,7 @@ use Rattle.ipdl_forms.specs.Reactions.{SpellsReaction}
 use Rattle.ipdl_forms.specs.Scopes.{NameScope, under_binder, binder_among, symbol_number, bound_variable}
 use Rattle.ipdl_forms.specs.Steps.{Earlier}
 use Rattle.ipdl_term.specs.Within.{IsExpressionWithin, IsReactionWithin, IsProtocolWithin}
-use Rattle.ipdl_top.specs.Lookups.{HasBodiesWithin}
+use Rattle.ipdl_commands.specs.Lookups.{HasBodiesWithin}
 
 -- ---- names
 
@@ -48,7 +48,7 @@ symbol_named-below scope (Some name) f e = by_test (is_none (operator_operands n
 
 -- ---- terms
 
-IsExpressionWithin-spelled : (scope : NameScope) (e : Expression) (t : Located) → SpellsExpression scope e t → IsExpressionWithin (length scope.symbols) (length scope.binders) e
+pub IsExpressionWithin-spelled : (scope : NameScope) (e : Expression) (t : Located) → SpellsExpression scope e t → IsExpressionWithin (length scope.symbols) (length scope.binders) e
 IsExpressionWithin-spelled scope (literal bits) t spells = tt
 IsExpressionWithin-spelled scope (variable n) t spells = bound_variable-below scope t n spells
 IsExpressionWithin-spelled scope (outer n) t spells = tt

@@ -10,7 +10,8 @@ use Rattle.ipdl_chain.specs.ChainTexts.{accepted_line, assumptions_in}
 use Rattle.ipdl_forms.specs.Documents.{Document, Entry, symbol_entry, protocol_entry, assumption_entry, theorem_entry, document_of, entry_of}
 use Rattle.ipdl_forms.specs.declared.document.Document.{Document as Held}
 use Rattle.ipdl_forms.specs.declared.document.Item.{Item}
-use Rattle.ipdl_script.proofs.ScriptLaws.{chain_exactly, none_of_map}
+use Rattle.ipdl_script.proofs.ScriptLaws.{chain_exactly}
+use Rattle.ipdl_script.proofs.StepTests.{none_of_map}
 use Rattle.ipdl_script.specs.Scripts.{first_wrong}
 use Rattle.ipdl_sig.specs.declared.symbol.Symbol.{Symbol}
 use Rattle.ipdl_term.specs.Steps.{Step}
@@ -21,7 +22,7 @@ use Rattle.ipdl_top.proofs.ItemTypes.{passed, not_refused}
 use Rattle.ipdl_top.proofs.Named.{HasSides, HaveSides}
 use Rattle.ipdl_top.proofs.Stops.{IsStop-first, IsStop-same}
 use Rattle.ipdl_top.specs.Chains.{Claim, claim_between, claim_chain, claim_text, item_neighbours, items_neighbours, item_text, items_text, theorem_count, chains_text, proved_text}
-use Rattle.ipdl_top.specs.Lookups.{Network, network_named}
+use Rattle.ipdl_commands.specs.Lookups.{Network, network_named}
 use Rattle.ipdl_top.specs.Refusals.{first_refusal}
 use Rattle.ipdl_top.specs.Scripts.{are_built_steps, item_offset, wrong_refusal, length_refusal, claim_refusal, theorem_refusal, judged_by_script, script_refusal, HasChain, IsProvedItem, AreProved, IsProvedDocument, HasShortChains}
 use Rattle.ipdl_top.specs.Statuses.{Refusal}
@@ -53,7 +54,7 @@ length_refusal-short theorem written fits =
 
 claim_refusal-none : (symbols : List Symbol) (assumptions : List (List ℕ)) (neighbours written : ℕ) (claim : Claim) → claim_refusal symbols assumptions neighbours written (Some claim) ≡ None → HasChain neighbours (Some claim) × (written + length (claim_text symbols assumptions (Some claim)) ≤ limit_number Output)
 claim_refusal-none symbols assumptions neighbours written claim e =
-    let wrong = wrong_refusal claim.name claim.theorem.lefts claim.theorem.rights in
+    let wrong = wrong_refusal symbols claim.name claim.theorem.lefts claim.theorem.rights in
     let all : ℕ = written + length (claim_text symbols assumptions (Some claim)) in
     let both = neither (option_map wrong (first_wrong claim.setting neighbours claim.theorem)) (length_refusal claim.name all) e in (
       (chain_exactly claim.setting neighbours claim.theorem (claim_chain claim)).1
@@ -63,7 +64,7 @@ claim_refusal-none symbols assumptions neighbours written claim e =
 
 claim_refusal-proved : (symbols : List Symbol) (assumptions : List (List ℕ)) (neighbours written : ℕ) (claim : Claim) → HasChain neighbours (Some claim) → written + length (claim_text symbols assumptions (Some claim)) ≤ limit_number Output → claim_refusal symbols assumptions neighbours written (Some claim) ≡ None
 claim_refusal-proved symbols assumptions neighbours written claim has fits =
-    let wrong = wrong_refusal claim.name claim.theorem.lefts claim.theorem.rights in
+    let wrong = wrong_refusal symbols claim.name claim.theorem.lefts claim.theorem.rights in
     let all : ℕ = written + length (claim_text symbols assumptions (Some claim)) in
     let right = ((chain_exactly claim.setting neighbours claim.theorem (claim_chain claim)).0 has).0 in
     no_first (option_map wrong (first_wrong claim.setting neighbours claim.theorem)) (length_refusal claim.name all)

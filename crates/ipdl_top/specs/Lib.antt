@@ -4,7 +4,6 @@ pub mod Statuses
 pub mod Lines
 pub mod Refusals
 pub mod Told
-pub mod Lookups
 pub mod Typed
 pub mod Summaries
 pub mod Chains
@@ -14,6 +13,7 @@ pub mod Meanings
 pub mod Requests
 pub mod Checking
 pub mod Telling
+pub mod Running
 pub mod Replies
 pub mod Runs
 pub mod Examples

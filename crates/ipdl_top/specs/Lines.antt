@@ -1,16 +1,20 @@
 -- The lines that say where and why something is refused.
-use Rattle.std.specs.Prelude.{ℕ, List, [], ◌∷◌, codes}
+use Rattle.std.specs.Prelude.{ℕ, Bool, List, [], ◌∷◌, ◌++◌, map, codes}
 use Rattle.std.specs.Fmt.{decimal}
 use Rattle.ipdl_base.specs.declared.limit.Limit.{Limit}
 use Rattle.ipdl_base.specs.declared.limit.Limit.TheVariants.{Source, Depth, Items, Channels, Nodes, Steps, Chain, Output, Coins}
+use Rattle.ipdl_commands.specs.Lines.{literal_text}
 use Rattle.ipdl_tree.specs.declared.fault.SpellCause.{SpellCause}
 use Rattle.ipdl_tree.specs.declared.fault.SpellCause.TheVariants.{BadByte, BadName, Unclosed, Extra, NoText}
 use Rattle.ipdl_typing.specs.Checks.{Cause, width, unbound, no_symbol, unwritten, not_output, twice, new_unwritten, missing, interface, Failure}
 use Rattle.ipdl_forms.specs.declared.fault.FormCause.{FormCause}
 use Rattle.ipdl_forms.specs.declared.fault.FormCause.TheVariants.{NotAForm, UnknownName, Repeated, WrongWidth, TableLength}
-use Rattle.ipdl_printing.specs.Texts.{line, spaced, place_text}
+use Rattle.ipdl_printing.specs.Printing.{binder_name, symbol_name}
+use Rattle.ipdl_printing.specs.Texts.{line, spaced, in_parentheses, place_text}
+use Rattle.ipdl_rules_r.specs.TruthTests.{TruthRefusal, abstract_symbol, too_large, too_wide, differ_at}
 use Rattle.ipdl_script.specs.Scripts.{Side, left_side, right_side}
 use Rattle.ipdl_script.specs.Steps as S
+use Rattle.ipdl_sig.specs.declared.symbol.Symbol.{Symbol}
 
 -- ---- the words of causes
 
@@ -54,15 +58,32 @@ abbrev pub side_name : Side → List ℕ
 side_name left_side = codes "left"
 side_name right_side = codes "right"
 
+-- a variable, named by the depth of its binder, with its value
+abbrev pub value_text : ℕ × List Bool → List ℕ
+value_text v = in_parentheses (binder_name v.0 ∷ literal_text v.1 ∷ [])
+
+-- texts, each with a blank before it
+abbrev pub after_blanks : List (List ℕ) → List ℕ
+after_blanks [] = []
+after_blanks (text ∷ texts) = codes " " ++ text ++ after_blanks texts
+
+-- why two expressions are not found equal
+abbrev pub truth_cause_text : List Symbol → TruthRefusal → List ℕ
+truth_cause_text symbols (abstract_symbol f) = spaced (codes "Abstract" ∷ symbol_name symbols f ∷ [])
+truth_cause_text symbols (too_large bits) = spaced (codes "Large" ∷ decimal bits ∷ [])
+truth_cause_text symbols (too_wide bits) = spaced (codes "TooWide" ∷ decimal bits ∷ [])
+truth_cause_text symbols (differ_at valuation) = codes "NotSame" ++ after_blanks (map value_text valuation)
+
 -- why a step is refused. A limit has a line of its own
-abbrev pub step_cause_text : S.Refusal → List ℕ
-step_cause_text S.no_place = codes "NoPlace"
-step_cause_text (S.no_variable n) = spaced (codes "NoVariable" ∷ decimal n ∷ [])
-step_cause_text S.no_match = codes "NoMatch"
-step_cause_text (S.side_fails n) = spaced (codes "Side" ∷ decimal n ∷ [])
-step_cause_text S.not_result = codes "NotResult"
-step_cause_text (S.ill_typed f) = spaced (codes "IllTyped" ∷ place_text f.path ∷ cause_text f.cause ∷ [])
-step_cause_text (S.over limit) = []
+abbrev pub step_cause_text : List Symbol → S.Refusal → List ℕ
+step_cause_text symbols S.no_place = codes "NoPlace"
+step_cause_text symbols (S.no_variable n) = spaced (codes "NoVariable" ∷ decimal n ∷ [])
+step_cause_text symbols S.no_match = codes "NoMatch"
+step_cause_text symbols (S.side_fails n) = spaced (codes "Side" ∷ decimal n ∷ [])
+step_cause_text symbols S.not_result = codes "NotResult"
+step_cause_text symbols (S.ill_typed f) = spaced (codes "IllTyped" ∷ place_text f.path ∷ cause_text f.cause ∷ [])
+step_cause_text symbols (S.untrue refusal) = truth_cause_text symbols refusal
+step_cause_text symbols (S.over limit) = []
 
 -- ---- where a limit is passed
 

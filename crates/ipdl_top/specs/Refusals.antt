@@ -11,6 +11,7 @@ use Rattle.ipdl_forms.specs.Documents.{Entry}
 use Rattle.ipdl_forms.specs.declared.fault.FormCause.{FormCause}
 use Rattle.ipdl_script.specs.Scripts.{Side}
 use Rattle.ipdl_script.specs.Steps as S
+use Rattle.ipdl_sig.specs.declared.symbol.Symbol.{Symbol}
 use Rattle.ipdl_top.specs.Lines.{spell_cause_name, form_cause_name, at_byte, at_item, at_theorem, at_step, spell_line, form_line, limit_line, ill_line, step_cause_text, wrong_step_line, ends_line}
 use Rattle.ipdl_top.specs.Statuses.{wrong, bad, over, Refusal, refusal_of}
 
@@ -58,14 +59,14 @@ over_at_step limit theorem side number =
     refusal_of over (limit_line limit (greatest_in_step limit) (at_step theorem side number))
 
 -- the step, whose rule is told so, is wrong
-abbrev pub wrong_step : (theorem : List ℕ) → Side → (number : ℕ) → (rule : List ℕ) → S.Refusal → Refusal
-wrong_step theorem side number rule cause =
-    refusal_of wrong (wrong_step_line theorem side number rule (step_cause_text cause))
+abbrev pub wrong_step : List Symbol → (theorem : List ℕ) → Side → (number : ℕ) → (rule : List ℕ) → S.Refusal → Refusal
+wrong_step symbols theorem side number rule cause =
+    refusal_of wrong (wrong_step_line theorem side number rule (step_cause_text symbols cause))
 
 -- the step is refused, by a limit or as wrong
-abbrev pub step_refused : (theorem : List ℕ) → Side → (number : ℕ) → (rule : List ℕ) → S.Refusal → Refusal
-step_refused theorem side number rule (S.over limit) = over_at_step limit theorem side number
-step_refused theorem side number rule cause = wrong_step theorem side number rule cause
+abbrev pub step_refused : List Symbol → (theorem : List ℕ) → Side → (number : ℕ) → (rule : List ℕ) → S.Refusal → Refusal
+step_refused symbols theorem side number rule (S.over limit) = over_at_step limit theorem side number
+step_refused symbols theorem side number rule cause = wrong_step symbols theorem side number rule cause
 
 -- its two ends differ first at a place
 abbrev pub ends_differ : (theorem place : List ℕ) → Refusal

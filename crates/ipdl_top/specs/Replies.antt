@@ -14,7 +14,8 @@ use Rattle.ipdl_forms.specs.Limits.{IsWithinLimits}
 use Rattle.ipdl_forms.specs.declared.fault.FormCause.{FormCause}
 use Rattle.ipdl_top.specs.Checking.{IsCheckRefusal, IsCheckAnswer}
 use Rattle.ipdl_top.specs.Refusals.{unspelled, misformed, over_at_byte}
-use Rattle.ipdl_top.specs.Requests.{Request, check, types, request_words, AreOfNoForm}
+use Rattle.ipdl_top.specs.Requests.{Request, check, types, run_item, AskFor, AreOfNoForm}
+use Rattle.ipdl_top.specs.Running.{IsRunRefusal, IsRunAnswer}
 use Rattle.ipdl_top.specs.Statuses.{over, Refusal, refusal_of, Reply, reply_of, refused, accepted}
 use Rattle.ipdl_top.specs.Telling.{IsTypesRefusal, IsTypesAnswer}
 use Rattle.ipdl_top.specs.Transfers.{source_limit}
@@ -89,11 +90,13 @@ pub record IsDocument (d : Document) (t : Located) (bytes : List ℕ) : Type 0 w
 abbrev pub IsRequestRefusal : Request → Document → Located → Refusal → Type 0
 IsRequestRefusal check d t r = IsCheckRefusal d t r
 IsRequestRefusal types d t r = IsTypesRefusal d t r
+IsRequestRefusal (run_item name tape order) d t r = IsRunRefusal name tape d r
 
 -- what is asked of a document is answered by this text
 abbrev pub IsAnswer : Request → Document → List ℕ → Type 0
 IsAnswer check d text = IsCheckAnswer d text
 IsAnswer types d text = IsTypesAnswer d text
+IsAnswer (run_item name tape order) d text = IsRunAnswer name tape d text
 
 -- a test of an item fails, and this is the first one
 abbrev pub IsIll : Document → Refusal → Type 0
@@ -121,4 +124,4 @@ IsReplyTo request bytes reply =
 abbrev pub IsReply : List (List ℕ) → List ℕ → Reply → Type 0
 IsReply words bytes reply =
     (AreOfNoForm words × (reply ≡ usage_reply))
-    ⊎ ((request : Request) × (words ≡ request_words request) × IsReplyTo request bytes reply)
+    ⊎ ((request : Request) × AskFor words request × IsReplyTo request bytes reply)

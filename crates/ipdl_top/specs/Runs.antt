@@ -5,8 +5,10 @@ use Rattle.ipdl_tree.specs.Trees.{Located}
 use Rattle.ipdl_forms.specs.Documents.{Document}
 use Rattle.ipdl_top.specs.declared.status.Status.{Status}
 use Rattle.ipdl_top.specs.declared.status.Status.TheVariants.{Accepted, WrongStep, BadSource, Usage, ReadFault, WriteFault, Memory, OverLimit}
+use Rattle.ipdl_top.specs.Chains.{Claim, proved_text}
+use Rattle.ipdl_top.specs.Meanings.{IsSoOfTheorems}
 use Rattle.ipdl_top.specs.Replies.{IsDocument, IsAnswer, IsReply}
-use Rattle.ipdl_top.specs.Requests.{Request, request_words, ReadsNothing}
+use Rattle.ipdl_top.specs.Requests.{Request, check, request_words, AskFor, ReadsNothing}
 use Rattle.ipdl_top.specs.Statuses.{Reply}
 use Rattle.ipdl_top.specs.Transfers.{source_limit, Took, TookFront}
 
@@ -62,5 +64,12 @@ pub record IsAnswered (request : Request) (bytes : List ℕ) (t : Located) (d : 
 -- document, and the text that answers the request was written.
 abbrev pub IsAccepted : List (List ℕ) → (left taken taken' : Option (List ℕ)) → Type 0
 IsAccepted words left taken taken' =
-    (request : Request) × (words ≡ request_words request) × ((bytes : List ℕ) → left ≡ Some bytes →
+    (request : Request) × AskFor words request × ((bytes : List ℕ) → left ≡ Some bytes →
     (t : Located) × (d : Document) × (text : List ℕ) × IsAnswered request bytes t d text × Took taken taken' text)
+
+-- Where the words are `check`, the bytes that the source told are those of a document, the text of its chains was written,
+-- and this is so of what each of its theorems claims.
+abbrev pub IsChecked : (Claim → Type 0) → List (List ℕ) → (left taken taken' : Option (List ℕ)) → Type 0
+IsChecked holds words left taken taken' =
+    words ≡ request_words check → (bytes : List ℕ) → left ≡ Some bytes →
+    (t : Located) × (d : Document) × IsDocument d t bytes × Took taken taken' (proved_text d) × IsSoOfTheorems holds d

@@ -10,7 +10,7 @@ use Rattle.ipdl_forms.specs.Lists.{operand}
 use Rattle.ipdl_printing.specs.Texts.{spaced}
 use Rattle.ipdl_script.specs.Scripts.{IsChain, Side, left_side, right_side, Wrong, wrong_step, wrong_ends, first_wrong}
 use Rattle.ipdl_sig.specs.declared.symbol.Symbol.{Symbol}
-use Rattle.ipdl_term.specs.Rules.{Rule, rule_word, comm, assocl, assocr, unit, newswap, scope}
+use Rattle.ipdl_term.specs.Rules.{Rule, rule_word, tidy, lin, shape}
 use Rattle.ipdl_term.specs.Steps.{Step, plain, rev, invoke}
 use Rattle.ipdl_tree.specs.Trees.{Located, offset_of}
 use Rattle.ipdl_top.specs.Chains.{Claim, claim_of, claim_chain, item_neighbours, items_neighbours, claim_text, items_text, chains_text}
@@ -19,14 +19,12 @@ use Rattle.ipdl_top.specs.Statuses.{Refusal}
 
 -- ---- what is built
 
+-- all rules but those of normal and linear forms
 abbrev pub is_built_rule : Rule → Bool
-is_built_rule comm = true
-is_built_rule assocl = true
-is_built_rule assocr = true
-is_built_rule unit = true
-is_built_rule newswap = true
-is_built_rule scope = true
-is_built_rule _ = false
+is_built_rule tidy = false
+is_built_rule (lin e) = false
+is_built_rule shape = false
+is_built_rule _ = true
 
 -- a step by a rule that is built, forward or back
 abbrev pub is_built_step : Step → Bool
@@ -65,10 +63,10 @@ abbrev pub steps_on : (lefts rights : List Step) → Side → List Step
 steps_on lefts rights left_side = lefts
 steps_on lefts rights right_side = rights
 
-abbrev pub wrong_refusal : (theorem : List ℕ) → (lefts rights : List Step) → Wrong → Refusal
-wrong_refusal theorem lefts rights (wrong_step side number refusal) =
-    step_refused theorem side number (rule_text_at (steps_on lefts rights side) number) refusal
-wrong_refusal theorem lefts rights (wrong_ends place) = ends_differ theorem place
+abbrev pub wrong_refusal : List Symbol → (theorem : List ℕ) → (lefts rights : List Step) → Wrong → Refusal
+wrong_refusal symbols theorem lefts rights (wrong_step side number refusal) =
+    step_refused symbols theorem side number (rule_text_at (steps_on lefts rights side) number) refusal
+wrong_refusal symbols theorem lefts rights (wrong_ends place) = ends_differ theorem place
 
 -- ---- the test that fails
 
@@ -82,7 +80,7 @@ abbrev pub claim_refusal : List Symbol → (assumptions : List (List ℕ)) → (
 claim_refusal symbols assumptions neighbours written None = None
 claim_refusal symbols assumptions neighbours written (Some claim) =
     option_or
-    (option_map (wrong_refusal claim.name claim.theorem.lefts claim.theorem.rights)
+    (option_map (wrong_refusal symbols claim.name claim.theorem.lefts claim.theorem.rights)
     (first_wrong claim.setting neighbours claim.theorem))
     (length_refusal claim.name (written + length (claim_text symbols assumptions (Some claim))))
 

@@ -8,11 +8,11 @@ use Rattle.ipdl_tree.specs.declared.fault.TreeFault.TheVariants as T
 use Rattle.ipdl_typing.specs.Answers.{failure_of}
 use Rattle.ipdl_forms.specs.declared.fault.DocFault.{DocFault}
 use Rattle.ipdl_forms.specs.declared.fault.DocFault.TheVariants as F
-use Rattle.ipdl_top.specs.Lines.{at_byte, at_item, at_theorem, at_step, limit_line}
-use Rattle.ipdl_script.specs.Views.{side_of, refusal_of as cause_told}
-use Rattle.ipdl_top.specs.Refusals.{unspelled, misformed, ill, not_built, wrong_step, ends_differ}
-use Rattle.ipdl_top.specs.Requests.{Request, check, types}
-use Rattle.ipdl_top.specs.Statuses.{over, Refusal, refusal_of, Reply, reply_of}
+use Rattle.ipdl_top.specs.Lines.{at_byte, at_item, at_theorem, at_step, limit_line, wrong_step_line}
+use Rattle.ipdl_script.specs.Views.{side_of}
+use Rattle.ipdl_top.specs.Refusals.{unspelled, misformed, ill, not_built, ends_differ}
+use Rattle.ipdl_top.specs.Requests.{Request, check, types, run_item, tape_of}
+use Rattle.ipdl_top.specs.Statuses.{wrong, bad, over, Refusal, refusal_of, Reply, reply_of}
 use Rattle.ipdl_top.specs.declared.answering.Answer.{Answer}
 use Rattle.ipdl_top.specs.declared.refusal.Refusal.{Refusal as Held}
 use Rattle.ipdl_top.specs.declared.refusal.Refusal.TheVariants as R
@@ -26,6 +26,7 @@ use Rattle.ipdl_top.specs.declared.request.Request.TheVariants as A
 abbrev pub request_of : Asked → Request
 request_of A.Check = check
 request_of A.Types = types
+request_of (A.Run name tape order) = run_item name (tape_of tape.now) order
 
 -- ---- refusals
 
@@ -42,8 +43,9 @@ told (R.NotBuilt pos) = not_built pos.0
 told (R.Limit limit number at) = refusal_of over (limit_line limit number (where_words at))
 told (R.Ill item found) = ill item (failure_of found)
 told (R.WrongStep theorem side number rule cause) =
-    wrong_step theorem (side_of side) number (string_bytes rule) (cause_told cause)
+    refusal_of wrong (wrong_step_line theorem (side_of side) number (string_bytes rule) cause.items)
 told (R.Ends theorem place) = ends_differ theorem place
+told (R.Item line) = refusal_of bad line.items
 
 -- the reply that the program's answer stands for
 abbrev pub answered : Answer → Reply

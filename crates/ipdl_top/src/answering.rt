@@ -1,12 +1,15 @@
 //! What is answered to a request and the bytes of a source: a text, or the line of a refusal.
 
 ghost use Rattle.std.specs.Prelude.{◌≡◌, ◌≤◌, IfOk, IfErr, length};
+ghost use Rattle.ipdl_tree.specs.Trees.{Located};
 ghost use Rattle.ipdl_tree.specs.Views.{located};
 ghost use Rattle.ipdl_forms.specs.Documents.{document_of};
 ghost use Rattle.ipdl_forms.specs.Items.{SpellsDocument};
 ghost use Rattle.ipdl_forms.specs.Limits.{IsWithinLimits};
 ghost use Rattle.ipdl_top.specs.Checking.{IsCheckRefusal, IsCheckAnswer};
 ghost use Rattle.ipdl_top.specs.Replies.{IsRequestRefusal, IsRefusedDocument, IsAnswer, IsReplyTo};
+ghost use Rattle.ipdl_top.specs.Requests.{tape_of};
+ghost use Rattle.ipdl_top.specs.Running.{IsRunRefusal, IsRunAnswer};
 ghost use Rattle.ipdl_top.specs.Statuses.{refused, accepted};
 ghost use Rattle.ipdl_top.specs.Summaries.{summary_text};
 ghost use Rattle.ipdl_top.specs.Told.{request_of, told, answered, Settles};
@@ -20,7 +23,8 @@ use crate::scripts::proved_text;
 use crate::status::Status;
 use crate::summaries::summary_text;
 use crate::typing::test_items;
-use ipdl_base::NoMemory;
+use ipdl_base::{Name, NoMemory};
+use ipdl_commands::{CommandFault, run_text};
 use ipdl_forms::Document;
 use ipdl_read::read_document;
 use ipdl_tree::{Tree, read_tree};
@@ -49,34 +53,66 @@ fn answer_to_types(alloc: Global, document: &Document) -> Result<Vec<u8>, Stop>
     }
 }
 
+// The bits that a word of digits writes.
+fn tape_bits(alloc: Global, word: &str) -> Result<Vec<bool>, NoMemory>
+    ensures { IfOk result (λ bits. bits.items ≡ tape_of word.now) }
+{
+    let mut bits = Vec::new(alloc);
+    for c in word.as_bytes() {
+        bits.push(*c == b'1')?;
+    }
+    Ok(bits)
+}
+
+// The answer to `run`, of a document whose items are well typed.
+fn answer_to_run(
+    alloc: Global,
+    document: &Document,
+    name: &Name,
+    tape: &str,
+) -> Result<Vec<u8>, Stop>
+    requires spelled { (t : Located) × SpellsDocument (document_of document.now) t }
+    requires within { IsWithinLimits (document_of document.now) }
+    requires typed { IsTypedDocument (document_of document.now) }
+    ensures { Settles result (IsRunRefusal name.now (tape_of tape.now) (document_of document.now)) (IsRunAnswer name.now (tape_of tape.now) (document_of document.now)) }
+{
+    let tape = tape_bits(alloc, tape)?;
+    match run_text(alloc, document, name.text(), tape.as_slice()) {
+        Ok(text) => Ok(text),
+        Err(CommandFault::Refused(line)) => Err(Stop::Refused(Refusal::Item(line))),
+        Err(CommandFault::Memory) => Err(Stop::Memory),
+    }
+}
+
 // The answer to a document whose items are well typed.
 fn answer_to_typed(
     alloc: Global,
-    request: Request,
+    request: &Request<'_>,
     tree: &Tree,
     document: &Document,
 ) -> Result<Vec<u8>, Stop>
     requires spelled { SpellsDocument (document_of document.now) (located tree.now) }
     requires within { IsWithinLimits (document_of document.now) }
     requires typed { IsTypedDocument (document_of document.now) }
-    ensures { Settles result (IsRequestRefusal (request_of request) (document_of document.now) (located tree.now)) (IsAnswer (request_of request) (document_of document.now)) }
+    ensures { Settles result (IsRequestRefusal (request_of request.now) (document_of document.now) (located tree.now)) (IsAnswer (request_of request.now) (document_of document.now)) }
 {
     match request {
         Request::Check => answer_to_check(alloc, tree, document),
         Request::Types => answer_to_types(alloc, document),
+        Request::Run { name, tape, .. } => answer_to_run(alloc, document, name, tape),
     }
 }
 
 // The answer to a document.
 fn answer_to_document(
     alloc: Global,
-    request: Request,
+    request: &Request<'_>,
     tree: &Tree,
     document: &Document,
 ) -> Result<Vec<u8>, Stop>
     requires spelled { SpellsDocument (document_of document.now) (located tree.now) }
     requires within { IsWithinLimits (document_of document.now) }
-    ensures { Settles result (IsRefusedDocument (request_of request) (document_of document.now) (located tree.now)) (IsAnswer (request_of request) (document_of document.now)) }
+    ensures { Settles result (IsRefusedDocument (request_of request.now) (document_of document.now) (located tree.now)) (IsAnswer (request_of request.now) (document_of document.now)) }
 {
     match test_items(alloc, document) {
         Ok(()) => answer_to_typed(alloc, request, tree, document),
@@ -85,9 +121,9 @@ fn answer_to_document(
 }
 
 // The answer to all bytes of a source, which are within the limit.
-fn answer_to(alloc: Global, request: Request, bytes: &[u8]) -> Result<Vec<u8>, Stop>
+fn answer_to(alloc: Global, request: &Request<'_>, bytes: &[u8]) -> Result<Vec<u8>, Stop>
     requires { length bytes.now ≤ source_limit }
-    ensures { Settles result (λ r. IsReplyTo (request_of request) bytes.now (refused r)) (λ text. IsReplyTo (request_of request) bytes.now (accepted text)) }
+    ensures { Settles result (λ r. IsReplyTo (request_of request.now) bytes.now (refused r)) (λ text. IsReplyTo (request_of request.now) bytes.now (accepted text)) }
 {
     let tree = match read_tree(alloc, bytes) {
         Ok(tree) => tree,
@@ -113,15 +149,19 @@ fn refusing_answer(alloc: Global, refusal: &Refusal) -> Result<Answer, NoMemory>
     let text = refusal_text(alloc, refusal)?;
     Ok(Answer {
         status: refusal.status(),
-        text: text.into_bytes(),
+        text,
     })
 }
 
 // The reply to all bytes of a source, which are within the limit: the text, or the line that says
 // why there is none.
-pub(crate) fn reply_to(alloc: Global, request: Request, bytes: &[u8]) -> Result<Answer, NoMemory>
+pub(crate) fn reply_to(
+    alloc: Global,
+    request: &Request<'_>,
+    bytes: &[u8],
+) -> Result<Answer, NoMemory>
     requires { length bytes.now ≤ source_limit }
-    ensures { IfOk result (λ answer. IsReplyTo (request_of request) bytes.now (answered answer)) }
+    ensures { IfOk result (λ answer. IsReplyTo (request_of request.now) bytes.now (answered answer)) }
 {
     match answer_to(alloc, request, bytes) {
         Ok(text) => Ok(Answer {

@@ -11,10 +11,10 @@ ghost use Rattle.ipdl_forms.specs.Limits.{IsWithinLimits};
 ghost use Rattle.ipdl_top.specs.Chains.{proved_text};
 ghost use Rattle.ipdl_top.specs.Examples.{worked_document, worked_tree};
 ghost use Rattle.ipdl_top.specs.Lines.{ends_line};
-ghost use Rattle.ipdl_top.specs.Meanings.{IsTrueItem};
+ghost use Rattle.ipdl_top.specs.Meanings.{HasEqualNeighbours, HasEqualSides, IsSoOfTheorems};
 ghost use Rattle.ipdl_top.specs.Refusals.{IsFirstRefused, wrong_step};
 ghost use Rattle.ipdl_top.specs.Replies.{IsReply};
-ghost use Rattle.ipdl_top.specs.Requests.{Request, check, request_words, request_in};
+ghost use Rattle.ipdl_top.specs.Requests.{Request, check, AskFor, request_in};
 ghost use Rattle.ipdl_top.specs.Runs.{IsAnswered};
 ghost use Rattle.ipdl_top.specs.Scripts.{judged_by_script, script_refusal, IsProvedDocument, HasShortChains};
 ghost use Rattle.ipdl_top.specs.Statuses.{Refusal, Reply};
@@ -23,7 +23,7 @@ ghost use Rattle.ipdl_top.specs.Typed.{judged_by_type, type_refusal, IsTypedDocu
 
 /// Words are those of one request at most, and a function finds it.
 pub fn words_are_of_one_request()
-    ensures { (words : List (List ℕ)) (request : Request) → (request_in words ≡ Some request) ↔ (words ≡ request_words request) }
+    ensures { (words : List (List ℕ)) (request : Request) → (request_in words ≡ Some request) ↔ AskFor words request }
 {}
 
 /// Words and bytes have exactly one reply. So it makes no difference in what pieces the source gave
@@ -50,8 +50,10 @@ pub fn the_first_theorem_is_refused()
 /// In a document whose theorems are accepted, each two neighbours of the chain of a theorem are equal
 /// at the interface of its left protocol, and so are its two protocols.
 pub fn chains_mean()
-    ensures { (bytes : List ℕ) (t : Located) (d : Document) (text : List ℕ) → IsAnswered check bytes t d text →
-        (index : ℕ) (item : Entry) → slice_get d.entries index ≡ Some item → IsTrueItem d.symbols d.entries item }
+    ensures neighbours { (bytes : List ℕ) (t : Located) (d : Document) (text : List ℕ) → IsAnswered check bytes t d text →
+        IsSoOfTheorems HasEqualNeighbours d }
+    ensures sides { (bytes : List ℕ) (t : Located) (d : Document) (text : List ℕ) → IsAnswered check bytes t d text →
+        IsSoOfTheorems HasEqualSides d }
 {}
 
 /// The worked example, computed from the definitions.
@@ -64,6 +66,6 @@ pub fn worked_example()
     ensures short { HasShortChains worked_document }
     ensures printed { proved_text worked_document ≡ codes "theorem t A B\n0 (par (out a (ret #0)) (out b (ret #1)))\nby rule lr comm ()\n1 (par (out b (ret #1)) (out a (ret #0)))\nexact 1 assumed 0\naccepted theorems 1 neighbours 1\n" }
     ensures summed { summary_text worked_document ≡ codes "protocol A inputs 0 outputs 2 channels 2 nodes 7 coins 0\nprotocol B inputs 0 outputs 2 channels 2 nodes 7 coins 0\ntheorem t A B steps 1\ntyped items 3\n" }
-    ensures wrong { (wrong_step (codes "t") right_side 2 (codes "rev unit") (no_variable 0)).text ≡ codes "wrong t right 2 rev unit NoVariable 0\n" }
+    ensures wrong { (wrong_step [] (codes "t") right_side 2 (codes "rev unit") (no_variable 0)).text ≡ codes "wrong t right 2 rev unit NoVariable 0\n" }
     ensures refused { ends_line (codes "t") (0 ∷ 0 ∷ 0 ∷ []) ≡ codes "wrong t ends (0 0 0)\n" }
 {}

@@ -3,6 +3,7 @@
 #![tactic(auto)]
 
 mod answering;
+mod causes;
 mod laws;
 mod refusal;
 mod refusing;

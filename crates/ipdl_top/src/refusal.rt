@@ -13,7 +13,7 @@ ghost use Rattle.ipdl_top.specs.declared.refusal.Stop.TheVariants.{Memory};
 use crate::status::Status;
 use ipdl_base::{Limit, Name, NoMemory, Path, Pos};
 use ipdl_forms::{DocFault, FormCause};
-use ipdl_script::{Cause, GREATEST_DEPTH, Side};
+use ipdl_script::{GREATEST_DEPTH, Side};
 use ipdl_tree::{SpellCause, TreeFault};
 use ipdl_typing::{Ill, TypeFault};
 use std::alloc::Global;
@@ -40,10 +40,12 @@ pub(crate) enum Refusal {
     Limit(Limit, u64, Where),
     // The item is ill typed.
     Ill(Name, Ill),
-    // The step of the theorem, whose rule is told so, is wrong.
-    WrongStep(Name, Side, u32, String, Cause),
+    // The step of the theorem, whose rule is told so, is wrong for this cause.
+    WrongStep(Name, Side, u32, String, Vec<u8>),
     // The two ends of the theorem differ first at this place.
     Ends(Name, Path),
+    // The item that a command names is refused, with this line.
+    Item(Vec<u8>),
 }
 
 impl Refusal {
@@ -55,7 +57,8 @@ impl Refusal {
             Refusal::Spell(_, _)
             | Refusal::Form(_, _)
             | Refusal::NotBuilt(_)
-            | Refusal::Ill(_, _) => Status::BadSource,
+            | Refusal::Ill(_, _)
+            | Refusal::Item(_) => Status::BadSource,
             Refusal::Limit(_, _, _) => Status::OverLimit,
             Refusal::WrongStep(_, _, _, _, _) | Refusal::Ends(_, _) => Status::WrongStep,
         }

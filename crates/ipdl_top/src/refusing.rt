@@ -1,19 +1,20 @@
 //! The lines that say where and why something is refused.
 
 ghost use Rattle.std.specs.Prelude.{◌≡◌, ◌++◌, IfOk, OnOk, string_bytes, [], ◌∷◌};
-ghost use Rattle.ipdl_typing.specs.Answers.{cause_of, failure_of};
-ghost use Rattle.ipdl_top.specs.Lines.{spell_cause_name, form_cause_name, limit_name, side_name, cause_text, step_cause_text, spell_line, form_line, limit_line, ill_line, wrong_step_line, ends_line};
+ghost use Rattle.ipdl_typing.specs.Answers.{failure_of};
+ghost use Rattle.ipdl_top.specs.Lines.{spell_cause_name, form_cause_name, limit_name, side_name, spell_line, form_line, limit_line, ill_line, wrong_step_line, ends_line};
 ghost use Rattle.ipdl_top.specs.Told.{where_words, told};
-ghost use Rattle.ipdl_printing.specs.Texts.{place_text, spaced};
-ghost use Rattle.ipdl_script.specs.Views.{side_of, refusal_of};
+ghost use Rattle.ipdl_printing.specs.Texts.{spaced};
+ghost use Rattle.ipdl_script.specs.Views.{side_of};
 
+use crate::causes::push_ill;
 use crate::refusal::{Refusal, Where};
 use ipdl_base::{Limit, Name, NoMemory, Pos};
 use ipdl_forms::FormCause;
 use ipdl_printing::push_place;
-use ipdl_script::{Cause, Side};
+use ipdl_script::Side;
 use ipdl_tree::SpellCause;
-use ipdl_typing::{Ill, IllCause};
+use ipdl_typing::Ill;
 use std::alloc::Global;
 
 // ---- the words of causes
@@ -65,50 +66,6 @@ fn side_name(side: Side) -> &'static str
         Side::Left => "left",
         Side::Right => "right",
     }
-}
-
-fn push_cause(text: &mut String, cause: &IllCause) -> Result<(), NoMemory>
-    ensures { OnOk result (string_bytes text.new ≡ string_bytes text.old ++ cause_text (cause_of cause.now)) }
-{
-    match cause {
-        IllCause::Width { want, got } => write!(text, "Width {want} {got}")?,
-        IllCause::Unbound { number } => write!(text, "Unbound {number}")?,
-        IllCause::NoSymbol { number } => write!(text, "NoSymbol {number}")?,
-        IllCause::Unwritten { name } => write!(text, "Unwritten {}", name.text())?,
-        IllCause::NotOutput { name } => write!(text, "NotOutput {}", name.text())?,
-        IllCause::Twice { name } => write!(text, "Twice {}", name.text())?,
-        IllCause::NewUnwritten { name } => write!(text, "NewUnwritten {}", name.text())?,
-        IllCause::Missing { name } => write!(text, "Missing {}", name.text())?,
-        IllCause::Interface { name } => write!(text, "Interface {}", name.text())?,
-    }
-    Ok(())
-}
-
-// A place with what is wrong there.
-fn push_ill(text: &mut String, ill: &Ill) -> Result<(), NoMemory>
-    ensures { OnOk result (string_bytes text.new ≡ string_bytes text.old ++ spaced (place_text (failure_of ill.now).path ∷ cause_text (failure_of ill.now).cause ∷ [])) }
-{
-    push_place(text, ill.path.parts())?;
-    text.push_str(" ")?;
-    push_cause(text, &ill.cause)
-}
-
-// Why a step is wrong.
-fn push_step_cause(text: &mut String, cause: &Cause) -> Result<(), NoMemory>
-    ensures { OnOk result (string_bytes text.new ≡ string_bytes text.old ++ step_cause_text (refusal_of cause.now)) }
-{
-    match cause {
-        Cause::NoPlace => text.push_str("NoPlace")?,
-        Cause::NoVariable { number } => write!(text, "NoVariable {number}")?,
-        Cause::NoMatch => text.push_str("NoMatch")?,
-        Cause::Side(number) => write!(text, "Side {number}")?,
-        Cause::NotResult => text.push_str("NotResult")?,
-        Cause::IllTyped(ill) => {
-            text.push_str("IllTyped ")?;
-            push_ill(text, ill)?
-        }
-    }
-    Ok(())
 }
 
 fn push_where(text: &mut String, at: &Where) -> Result<(), NoMemory>
@@ -178,16 +135,17 @@ fn wrong_step_text(
     side: Side,
     number: u32,
     rule: &str,
-    cause: &Cause,
-) -> Result<String, NoMemory>
-    ensures { IfOk result (λ text. string_bytes text ≡ wrong_step_line theorem.now (side_of side) number rule.now (step_cause_text (refusal_of cause.now))) }
+    cause: &[u8],
+) -> Result<Vec<u8>, NoMemory>
+    ensures { IfOk result (λ text. text.items ≡ wrong_step_line theorem.now (side_of side) number rule.now cause.now) }
 {
     let mut text = String::new(alloc);
     let theorem = theorem.text();
     let side = side_name(side);
     write!(text, "wrong {theorem} {side} {number} {rule} ")?;
-    push_step_cause(&mut text, cause)?;
-    text.push_str("\n")?;
+    let mut text = text.into_bytes();
+    text.extend_from_slice(cause)?;
+    text.push(b'\n')?;
     Ok(text)
 }
 
@@ -202,18 +160,26 @@ fn ends_text(alloc: Global, theorem: &Name, place: &[u32]) -> Result<String, NoM
 }
 
 // The line of a refusal.
-pub(crate) fn refusal_text(alloc: Global, refusal: &Refusal) -> Result<String, NoMemory>
-    ensures { IfOk result (λ text. string_bytes text ≡ (told refusal.now).text) }
+pub(crate) fn refusal_text(alloc: Global, refusal: &Refusal) -> Result<Vec<u8>, NoMemory>
+    ensures { IfOk result (λ text. text.items ≡ (told refusal.now).text) }
 {
-    match refusal {
-        Refusal::Spell(pos, cause) => spell_text(alloc, *pos, *cause),
-        Refusal::Form(pos, cause) => form_text(alloc, *pos, form_cause_name(*cause)),
-        Refusal::NotBuilt(pos) => form_text(alloc, *pos, "NotBuilt"),
-        Refusal::Limit(limit, number, at) => limit_text(alloc, *limit, *number, at),
-        Refusal::Ill(item, ill) => ill_text(alloc, item, ill),
+    Ok(match refusal {
+        Refusal::Spell(pos, cause) => spell_text(alloc, *pos, *cause)?.into_bytes(),
+        Refusal::Form(pos, cause) => form_text(alloc, *pos, form_cause_name(*cause))?.into_bytes(),
+        Refusal::NotBuilt(pos) => form_text(alloc, *pos, "NotBuilt")?.into_bytes(),
+        Refusal::Limit(limit, number, at) => limit_text(alloc, *limit, *number, at)?.into_bytes(),
+        Refusal::Ill(item, ill) => ill_text(alloc, item, ill)?.into_bytes(),
         Refusal::WrongStep(theorem, side, number, rule, cause) => {
-            wrong_step_text(alloc, theorem, *side, *number, rule.as_str(), cause)
+            wrong_step_text(
+                alloc,
+                theorem,
+                *side,
+                *number,
+                rule.as_str(),
+                cause.as_slice(),
+            )?
         }
-        Refusal::Ends(theorem, place) => ends_text(alloc, theorem, place.parts()),
-    }
+        Refusal::Ends(theorem, place) => ends_text(alloc, theorem, place.parts())?.into_bytes(),
+        Refusal::Item(line) => line.clone()?,
+    })
 }

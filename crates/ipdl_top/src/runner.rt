@@ -6,8 +6,9 @@ ghost use Rattle.ipdl_io.specs.Faults.{MayHaveRisen, HasRisen, DidNotRise};
 ghost use Rattle.ipdl_tree.specs.Trees.{Located};
 ghost use Rattle.ipdl_forms.specs.Documents.{Document};
 ghost use Rattle.ipdl_top.specs.Replies.{usage_reply, fault_reply};
-ghost use Rattle.ipdl_top.specs.Requests.{Request, request_words, AreOfNoForm, ReadsNothing};
-ghost use Rattle.ipdl_top.specs.Runs.{IsVerdict, IsOfWholeSource, IsFinished, IsReplied, IsRepliedFront, IsAnswered, IsAccepted};
+ghost use Rattle.ipdl_top.specs.Requests.{Request, AskFor, AreOfNoForm, ReadsNothing};
+ghost use Rattle.ipdl_top.specs.Runs.{IsVerdict, IsOfWholeSource, IsFinished, IsReplied, IsRepliedFront, IsAnswered, IsAccepted, IsChecked};
+ghost use Rattle.ipdl_top.specs.Meanings.{HasEqualNeighbours, HasEqualSides};
 ghost use Rattle.ipdl_top.specs.Transfers.{GaveSome, GaveTooMany, Took, TookFront};
 
 use crate::answering::reply_to;
@@ -31,9 +32,10 @@ fn finish<K: Sink>(planned: Status, text: &[u8], sink: &mut K) -> Status
 
 /// Reads the source to its end, and writes the reply to the words and to its bytes.
 ///
-/// The words are those after the program's name. The one word `check` and the one word `types` are
-/// forms of words; at any other words nothing is read. The reply is formed whole before the first byte of it is
-/// written. A source that fails is answered with the line `fault read`.
+/// The words are those after the program's name. `check`, `types` and `run NAME TAPE ORDER` are forms
+/// of words: NAME is a name, TAPE a word of the digits 0 and 1, and ORDER a decimal number of 64
+/// bits. At any other words nothing is read. The reply is formed whole before the first byte of it
+/// is written. A source that fails is answered with the line `fault read`.
 pub fn run<S: Source, K: Sink>(
     alloc: Global,
     words: &[String],
@@ -56,9 +58,17 @@ pub fn run<S: Source, K: Sink>(
     ensures accepted { result ≡ Status.Accepted →
         IsAccepted (map string_bytes words.now) (S.left source.old) (K.taken sink.old) (K.taken sink.new) }
     ensures complete { (request : Request) (bytes : List ℕ) (t : Located) (d : Document) (text : List ℕ) → IsAnswered request bytes t d text →
-        map string_bytes words.now ≡ request_words request → S.left source.old ≡ Some bytes →
+        AskFor (map string_bytes words.now) request → S.left source.old ≡ Some bytes →
         DidNotRise (S.faults source.old) (S.faults source.new) → DidNotRise (K.faults sink.old) (K.faults sink.new) →
         result ≢ Status.Memory → (result ≡ Status.Accepted) × Took (K.taken sink.old) (K.taken sink.new) text }
+
+    // What `check` accepts is true: each two neighbours of each chain are equal at the interface of
+    // the theorem's left protocol, under every interpretation of the symbols and in every closing
+    // context, and so are the two protocols of each theorem.
+    ensures neighbours_are_equal { result ≡ Status.Accepted →
+        IsChecked HasEqualNeighbours (map string_bytes words.now) (S.left source.old) (K.taken sink.old) (K.taken sink.new) }
+    ensures sides_are_equal { result ≡ Status.Accepted →
+        IsChecked HasEqualSides (map string_bytes words.now) (S.left source.old) (K.taken sink.old) (K.taken sink.new) }
 
     // At words of no form no memory is wanted, and nothing is read.
     ensures usage { AreOfNoForm (map string_bytes words.now) → IsFinished Status.Usage result (K.taken sink.old) (K.taken sink.new)
@@ -84,8 +94,10 @@ pub fn run<S: Source, K: Sink>(
     ensures gave { GaveSome (S.left source.old) (S.left source.new) }
     ensures took { (text : List ℕ) × TookFront (K.taken sink.old) (K.taken sink.new) text }
 {
-    let Some(request) = request_in(words) else {
-        return finish(Status::Usage, b"usage\n", sink);
+    let request = match request_in(alloc, words) {
+        Ok(Some(request)) => request,
+        Ok(None) => return finish(Status::Usage, b"usage\n", sink),
+        Err(NoMemory) => return Status::Memory,
     };
     let bytes = match read_all(alloc, source) {
         Ok(bytes) => bytes,
@@ -99,7 +111,7 @@ pub fn run<S: Source, K: Sink>(
         }
         Err(ReadStop::Memory) => return Status::Memory,
     };
-    match reply_to(alloc, request, bytes.as_slice()) {
+    match reply_to(alloc, &request, bytes.as_slice()) {
         Ok(answer) => finish(answer.status, answer.text.as_slice(), sink),
         Err(NoMemory) => Status::Memory,
     }

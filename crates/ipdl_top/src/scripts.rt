@@ -33,8 +33,8 @@ fn is_built_rule(rule: &Rule) -> bool
     ensures { result ≡ is_built_rule (rule_of rule.now) }
 {
     match rule {
-        Rule::Comm | Rule::Assocl | Rule::Assocr | Rule::Unit | Rule::Newswap | Rule::Scope => true,
-        _ => false,
+        Rule::Tidy | Rule::Lin(_) | Rule::Shape => false,
+        _ => true,
     }
 }
 
@@ -105,7 +105,7 @@ fn add_chain(
 {
     let chain = match check_theorem(alloc, book, theorem) {
         Ok(chain) => chain,
-        Err(fault) => return Err(script_stop(alloc, theorem, fault)),
+        Err(fault) => return Err(script_stop(alloc, &book.document.sig, theorem, fault)),
     };
     push_chain(text, book.document, &chain)?;
     let limit = Limit::Output;

@@ -8,10 +8,12 @@ ghost use Rattle.ipdl_term.specs.Steps.{step_of};
 ghost use Rattle.ipdl_top.specs.Scripts.{rule_text, rule_text_at, steps_on, wrong_refusal};
 ghost use Rattle.ipdl_top.specs.Told.{IsStop};
 
+use crate::causes::step_cause_text;
 use crate::refusal::{Refusal, Stop, ends_differ, over_at_step};
 use ipdl_base::NoMemory;
 use ipdl_forms::TheoremItem;
 use ipdl_script::{Cause, ScriptFault, Side, Wrong};
+use ipdl_sig::Sig;
 use ipdl_term::{Step, rule_word};
 use std::alloc::Global;
 
@@ -51,10 +53,20 @@ fn steps_on(theorem: &TheoremItem, side: Side) -> &[Step]
 }
 
 // The step is wrong.
-fn wrong_step(alloc: Global, theorem: &TheoremItem, side: Side, number: u32, cause: Cause) -> Stop
-    ensures { IsStop result (Some (wrong_refusal theorem.now.name (map step_of theorem.now.left_steps) (map step_of theorem.now.right_steps) (wrong_step (side_of side) number (refusal_of cause)))) }
+fn wrong_step(
+    alloc: Global,
+    sig: &Sig,
+    theorem: &TheoremItem,
+    side: Side,
+    number: u32,
+    cause: &Cause,
+) -> Stop
+    ensures { IsStop result (Some (wrong_refusal sig.now theorem.now.name (map step_of theorem.now.left_steps) (map step_of theorem.now.right_steps) (wrong_step (side_of side) number (refusal_of cause.now)))) }
 {
     let Ok(rule) = rule_text_at(alloc, steps_on(theorem, side), number) else {
+        return Stop::Memory;
+    };
+    let Ok(cause) = step_cause_text(alloc, sig, cause) else {
         return Stop::Memory;
     };
     match theorem.name.copy(alloc) {
@@ -64,12 +76,17 @@ fn wrong_step(alloc: Global, theorem: &TheoremItem, side: Side, number: u32, cau
 }
 
 // Where a call stops at a fault of the scripts of a theorem.
-pub(crate) fn script_stop(alloc: Global, theorem: &TheoremItem, fault: ScriptFault) -> Stop
-    ensures { (wrong : Option Found) → TellsWrong fault wrong → IsStop result (option_map (wrong_refusal theorem.now.name (map step_of theorem.now.left_steps) (map step_of theorem.now.right_steps)) wrong) }
+pub(crate) fn script_stop(
+    alloc: Global,
+    sig: &Sig,
+    theorem: &TheoremItem,
+    fault: ScriptFault,
+) -> Stop
+    ensures { (wrong : Option Found) → TellsWrong fault wrong → IsStop result (option_map (wrong_refusal sig.now theorem.now.name (map step_of theorem.now.left_steps) (map step_of theorem.now.right_steps)) wrong) }
 {
     match fault {
         ScriptFault::Wrong(Wrong::At { side, step, cause }) => {
-            wrong_step(alloc, theorem, side, step, cause)
+            wrong_step(alloc, sig, theorem, side, step, &cause)
         }
         ScriptFault::Wrong(Wrong::Ends { path }) => ends_differ(alloc, &theorem.name, path),
         ScriptFault::Over { limit, side, step } => {

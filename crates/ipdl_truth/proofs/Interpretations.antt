@@ -103,7 +103,7 @@ neither : (o u : Option ℕ) → option_or o u ≡ None → (o ≡ None) × (u �
 neither None u e = (refl, e)
 neither (Some x) u e = cc
 
-none_both : (p : ℕ → Bool) (xs ys : List ℕ) → find p (xs ++ ys) ≡ None → (find p xs ≡ None) × (find p ys ≡ None)
+pub none_both : (p : ℕ → Bool) (xs ys : List ℕ) → find p (xs ++ ys) ≡ None → (find p xs ≡ None) × (find p ys ≡ None)
 none_both p xs ys none = neither (find p xs) (find p ys) (sym (find-append p xs ys) ∙ none)
 
 pub evaluation-tables : (sig : Signature) (J : Interpretation) (env : List Value) (e : Expression) → Interprets sig J → HasTablesOnly sig e → evaluation J env e ≡ evaluation (tables_of sig) env e

@@ -6,4 +6,5 @@ pub mod Answers
 pub mod Walks
 pub mod FreeValues
 pub mod Enumerations
+pub mod FirstDifferences
 pub mod WorkedRows

@@ -1,5 +1,6 @@
 pub mod Abstract
 pub mod Agreement
+pub mod FirstDifference
 pub mod FreeVariables
 pub mod Operators
 pub mod Questions

@@ -22,9 +22,9 @@ fn is_abstract(sig: &Sig, number: u32) -> bool
     }
 }
 
-// The first abstract symbol in an expression.
+/// The first abstract symbol in an expression.
 #[tactic(auto, using(crate::proofs::Walks::found_in_two))]
-fn first_in(sig: &Sig, term: &Expr) -> Option<u32>
+pub fn first_abstract_in(sig: &Sig, term: &Expr) -> Option<u32>
     ensures { result ≡ find (is_abstract (signature_of sig.now)) (symbols_in (expression_of term.now)) }
 {
     match term {
@@ -33,14 +33,16 @@ fn first_in(sig: &Sig, term: &Expr) -> Option<u32>
             if is_abstract(sig, *number) {
                 Some(*number)
             } else {
-                first_in(sig, e)
+                first_abstract_in(sig, e)
             }
         }
-        Expr::Not(a) | Expr::Cut(_, _, a) => first_in(sig, a),
+        Expr::Not(a) | Expr::Cut(_, _, a) => first_abstract_in(sig, a),
         Expr::Xor(a, b) | Expr::And(a, b) | Expr::Cat(a, b) | Expr::Same(a, b) => {
-            first_in(sig, a).or(first_in(sig, b))
+            first_abstract_in(sig, a).or(first_abstract_in(sig, b))
         }
-        Expr::Mux(test, a, b) => first_in(sig, test).or(first_in(sig, a).or(first_in(sig, b))),
+        Expr::Mux(test, a, b) => first_abstract_in(sig, test).or(first_abstract_in(sig, a).or(
+            first_abstract_in(sig, b),
+        )),
     }
 }
 
@@ -50,7 +52,7 @@ fn first_in_tests(sig: &Sig, conditions: &[Condition]) -> Option<u32>
         (symbols_in_all (tests_of (map condition_of conditions.now))) }
 {
     for condition in conditions {
-        let first = first_in(sig, &condition.test);
+        let first = first_abstract_in(sig, &condition.test);
         if first.is_some() {
             return first;
         }
@@ -63,7 +65,7 @@ fn first_in_tests(sig: &Sig, conditions: &[Condition]) -> Option<u32>
 pub(crate) fn first_abstract(question: &Question) -> Option<u32>
     ensures { result ≡ first_abstract (asked_of question.now) }
 {
-    let left = first_in(question.sig, question.left);
-    let right = first_in(question.sig, question.right);
+    let left = first_abstract_in(question.sig, question.left);
+    let right = first_abstract_in(question.sig, question.right);
     left.or(right.or(first_in_tests(question.sig, question.conditions)))
 }

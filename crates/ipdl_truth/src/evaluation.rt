@@ -25,9 +25,9 @@ fn variable_value(env: &[Bits], number: u32) -> Bits
     }
 }
 
-// The value of any expression: an abstract symbol counts as one that gives zeros, and nothing is the
-// value where widths do not suit.
-pub(crate) fn value_of(sig: &Sig, env: &[Bits], term: &Expr) -> Bits
+/// The value of any expression: an abstract symbol counts as one that gives zeros, and nothing is the
+/// value where widths do not suit. `env` lists the values of the binders from the outermost.
+pub fn value_of(sig: &Sig, env: &[Bits], term: &Expr) -> Bits
     ensures { result ≡ evaluation (tables_of (signature_of sig.now)) (reverse env.now)
         (expression_of term.now) }
 {

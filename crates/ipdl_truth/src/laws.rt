@@ -1,13 +1,14 @@
 //! The laws of the tables and of free variables. Each is a function that does nothing and has the
 //! law as its contract.
 
-ghost use Rattle.std.specs.Prelude.{◌≡◌, ℕ, List, None, reverse, true};
+ghost use Rattle.std.specs.Prelude.{◌≡◌, ◌↔◌, ℕ, List, None, Some, reverse, true};
 ghost use Rattle.ipdl_term.specs.Interpretations.{Signature, Interpretation, Interprets, evaluation, variable_value};
 ghost use Rattle.ipdl_term.specs.Surroundings.{FitWidths, Meets};
 ghost use Rattle.ipdl_term.specs.Terms.{Expression, Value};
 ghost use Rattle.ipdl_term.specs.Variables.{expression_uses};
 ghost use Rattle.ipdl_truth.specs.Abstract.{HasTablesOnly};
-ghost use Rattle.ipdl_truth.specs.Agreement.{AgreeEverywhere};
+ghost use Rattle.ipdl_truth.specs.Agreement.{AgreeEverywhere, DifferFirstAt};
+ghost use Rattle.ipdl_truth.specs.FirstDifference.{first_difference};
 ghost use Rattle.ipdl_truth.specs.Questions.{Question, first_abstract};
 ghost use Rattle.ipdl_truth.specs.Tables.{tables_of};
 ghost use Rattle.ipdl_typing.specs.Signatures.{signature_of};
@@ -42,4 +43,12 @@ pub fn value_of_free_variables()
     ensures { (J : Interpretation) (env others : List Value) (e : Expression) →
         ((n : ℕ) → expression_uses e n ≡ true → variable_value env n ≡ variable_value others n) →
         evaluation J env e ≡ evaluation J others e }
+{}
+
+/// The first difference of a question is the valuation at which the two expressions differ first, and
+/// there is none exactly where they agree everywhere.
+pub fn first_difference_exactly()
+    ensures { (q : Question) →
+        ((valuation : List (ℕ × Value)) → (first_difference q ≡ Some valuation) ↔ DifferFirstAt q valuation)
+        × ((first_difference q ≡ None) ↔ AgreeEverywhere q) }
 {}

@@ -18,9 +18,13 @@ mod weights;
 mod worked;
 mod zeros;
 
+pub use abstracts::first_abstract_in;
 pub use agreement::{Agreement, TruthFault, agree};
-pub use evaluation::eval_expr;
-pub use laws::{agree_under_all, tables_interpret, tables_suffice, value_of_free_variables};
+pub use evaluation::{eval_expr, value_of};
+pub use laws::{
+    agree_under_all, first_difference_exactly, tables_interpret, tables_suffice,
+    value_of_free_variables,
+};
 pub use worked::{
     a_bit_and_zero, a_wide_question, cancelled_is_zero, values_of_a_table, widths_differ,
 };

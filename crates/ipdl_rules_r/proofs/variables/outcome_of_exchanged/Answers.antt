@@ -1,4 +1,4 @@
-use Rattle.ipdl_rules_r.proofs.Rewritten.{outcome_of_exchanged}
+use Rattle.ipdl_laws.proofs.Rewritten.{outcome_of_exchanged}
 use Rattle.ipdl_rules_r.proofs.variables.outcome_of_exchanged.Goals as goal
 
 pub returns : goal.returns

@@ -1,4 +1,4 @@
-use Rattle.ipdl_rules_r.proofs.Numbering.{variables_exchanged}
+use Rattle.ipdl_laws.proofs.Numbering.{variables_exchanged}
 use Rattle.ipdl_rules_r.proofs.variables.variables_exchanged.Goals as goal
 
 pub returns : goal.returns

@@ -1,4 +1,4 @@
-use Rattle.ipdl_rules_r.proofs.Numbering.{variables_replaced}
+use Rattle.ipdl_laws.proofs.Numbering.{variables_replaced}
 use Rattle.ipdl_rules_r.proofs.variables.variables_replaced.Goals as goal
 
 pub returns : goal.returns

@@ -1,6 +1,6 @@
 use Rattle.std.proofs.Common.{◌≡◌, List, ℕ, ap, sym, ◌∙◌}
 use Rattle.std.proofs.lemmas.Result.{err_from_is_err_and}
-use Rattle.ipdl_script.proofs.StepParts.{told_of_part, told_of_whole, plain_is_typed}
+use Rattle.ipdl_script.proofs.StepParts.{told_of_part, told_of_whole}
 use Rattle.ipdl_script.specs.Steps.{after_step}
 use Rattle.ipdl_script.specs.Views.{setting_of}
 use Rattle.ipdl_term.specs.Places.{protocol_or, term_with}
@@ -24,11 +24,9 @@ returns-clause-steps c =
     c.in_ok-part.ensures.changed.whole ∙ ap there (sym place) ∙ sym (ap (protocol_or before) c.in_ok-after.ensures) in
     told_of_whole x before (step_of c.args.step.now) (protocol_of c.in_ok-after.after) c.accepted.result c.in_ok-part.ensures.test is c.accepted.ensures.test c.accepted.ensures.same
 
-pub accepted-requires : goal.accepted-requires
-accepted-requires c =
+pub accepted-requires-clause-after : goal.accepted-requires-clause-after
+accepted-requires-clause-after c =
     let x = setting_of c.args.setting.now in
     let before = protocol_of c.args.before.now in
     let there : List ℕ → Protocol = λ place. protocol_or before (term_with (protocol_term before) place (term_of c.in_ok-part.part.value)) in
-    let is : after_step x before (step_of c.args.step.now) ≡ protocol_of c.in_ok-after.after =
-    c.in_ok-part.ensures.changed.whole ∙ ap there (sym c.path_of.ensures) ∙ sym (ap (protocol_or before) c.in_ok-after.ensures) in
-    plain_is_typed x before (step_of c.args.step.now) (protocol_of c.in_ok-after.after) c.requires.whole.typed c.in_ok-part.ensures.test is
+    c.in_ok-part.ensures.changed.whole ∙ ap there (sym c.path_of.ensures) ∙ sym (ap (protocol_or before) c.in_ok-after.ensures)

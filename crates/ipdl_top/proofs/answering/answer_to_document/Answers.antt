@@ -12,10 +12,10 @@ answer_to_typed-requires-clause-typed c =
 
 pub returns-in-Ok : goal.returns-in-Ok
 returns-in-Ok c =
-    Settles-asked (request_of c.args.request) (document_of c.args.document.now) (located c.args.tree.now) c.answer_to_typed.result
+    Settles-asked (request_of c.args.request.now) (document_of c.args.document.now) (located c.args.tree.now) c.answer_to_typed.result
     (IsTypedDocument-none (document_of c.args.document.now) (HaveSides-spelled (document_of c.args.document.now) (located c.args.tree.now) c.requires.spelled) c.in-Ok.ensures)
     c.answer_to_typed.ensures
 
 pub returns-in-Err : goal.returns-in-Err
 returns-in-Err c =
-    Settles-ill (request_of c.args.request) (document_of c.args.document.now) (located c.args.tree.now) c.in-Err.stop c.in-Err.ensures
+    Settles-ill (request_of c.args.request.now) (document_of c.args.document.now) (located c.args.tree.now) c.in-Err.stop c.in-Err.ensures

@@ -11,6 +11,6 @@ returns-in-Err-Refused c =
     let reply = rw c.in-Err-Refused.field-0-is at c.in-Err-Refused.ensures in
     IfOk-weaker c.refusing_answer.result
     (λ (a : Answer). answered a ≡ refused (told c.in-Err-Refused.refusal))
-    (λ (a : Answer). IsReplyTo (request_of c.args.request) c.args.bytes.now (answered a))
-    (λ a e. subst (λ (r : Reply). IsReplyTo (request_of c.args.request) c.args.bytes.now r) (sym e) reply)
+    (λ (a : Answer). IsReplyTo (request_of c.args.request.now) c.args.bytes.now (answered a))
+    (λ a e. subst (λ (r : Reply). IsReplyTo (request_of c.args.request.now) c.args.bytes.now r) (sym e) reply)
     c.refusing_answer.ensures

@@ -16,8 +16,8 @@ loop-condition-preserved c =
     let x = c.condition-item.result in
     let rest = symbols_in_all (tests_of (map condition_of (drop (i + 1) cs))) in
     let here = ap (λ es. find p (symbols_in_all es)) (first_test cs i x c.loop-condition-test.true c.condition-item.is) in
-    let none = none_there c.first_in-first.result (sym c.is_some.ensures ∙ c.if-is_some.false) in
-    sym (found_later p (symbols_in (expression_of x.test)) rest (sym c.first_in-first.ensures ∙ none)) ∙ sym here ∙ c.loop-condition.invariant
+    let none = none_there c.first_abstract_in-first.result (sym c.is_some.ensures ∙ c.if-is_some.false) in
+    sym (found_later p (symbols_in (expression_of x.test)) rest (sym c.first_abstract_in-first.ensures ∙ none)) ∙ sym here ∙ c.loop-condition.invariant
 
 pub returns-then-is_some : goal.returns-then-is_some
 returns-then-is_some c =
@@ -27,5 +27,5 @@ returns-then-is_some c =
     let x = c.condition-item.result in
     let rest = symbols_in_all (tests_of (map condition_of (drop (i + 1) cs))) in
     let here = ap (λ es. find p (symbols_in_all es)) (first_test cs i x c.loop-condition-test.true c.condition-item.is) in
-    let some : is_some (find p (symbols_in (expression_of x.test))) ≡ true = sym (ap is_some c.first_in-first.ensures) ∙ sym c.is_some.ensures ∙ c.if-is_some.true in
-    c.first_in-first.ensures ∙ sym (found_first p (symbols_in (expression_of x.test)) rest some) ∙ sym here ∙ c.loop-condition.invariant
+    let some : is_some (find p (symbols_in (expression_of x.test))) ≡ true = sym (ap is_some c.first_abstract_in-first.ensures) ∙ sym c.is_some.ensures ∙ c.if-is_some.true in
+    c.first_abstract_in-first.ensures ∙ sym (found_first p (symbols_in (expression_of x.test)) rest some) ∙ sym here ∙ c.loop-condition.invariant

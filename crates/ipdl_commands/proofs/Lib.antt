@@ -1,0 +1,4 @@
+pub mod Networks
+pub mod Replies
+mod Refusing
+mod Answering

@@ -1,0 +1,5 @@
+pub mod Lookups
+pub mod Lines
+pub mod Running
+pub mod Views
+pub mod Worked

@@ -1,0 +1,6 @@
+use Rattle.ipdl_rules_p.proofs.InstanceMeanings.{typed_instance_at_place}
+use Rattle.ipdl_rules_p.proofs.instances.typed_instance_at_place.Goals as goal
+
+pub returns : goal.returns
+returns c = λ sig scope written p q place rule left right typed typed' at with instance.
+    typed_instance_at_place sig scope written p q place rule left right typed at with typed' instance

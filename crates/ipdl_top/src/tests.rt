@@ -78,7 +78,7 @@ fn answers_documents(rt: HostRuntime) -> Result<(), Fail> {
         ),
         (
             "check",
-            "(ipdl 1 (protocol A (inputs) (outputs) (nil)) (theorem t A A (left (comm (9)) (beta ())) (right)))",
+            "(ipdl 1 (protocol A (inputs) (outputs) (nil)) (theorem t A A (left (comm (9)) (tidy ())) (right)))",
             Status::BadSource,
             "form 46 NotBuilt\n",
         ),

@@ -1,0 +1,7 @@
+-- The lemmas that the proofs of the calls cite.
+pub mod PairLaws
+pub mod NameSets
+pub mod Completions
+pub mod Visible
+pub mod Captures
+pub mod Followed

@@ -2,7 +2,7 @@
 use Rattle.std.proofs.Common.{◌≡◌, ℕ, ◌≤◌, Bool, List, [], ◌++◌, Option, Some, None, refl, subst, ◌∙◌, length}
 use Rattle.ipdl_commands.proofs.Refusing.{run_refusal-none, long_enough}
 use Rattle.ipdl_commands.specs.Running.{IsRunAnswer, run_text, coins_line, output_lines}
-use Rattle.ipdl_commands.specs.Views.{network_of}
+use Rattle.ipdl_forms.specs.Networks.{network_of}
 use Rattle.ipdl_forms.specs.declared.document.ProtocolItem.{ProtocolItem}
 use Rattle.ipdl_mean.specs.Answers.{Solves}
 use Rattle.ipdl_mean.specs.Closed.{Closed, body_of}

@@ -1,4 +1,3 @@
-pub mod Networks
 pub mod Replies
 mod Refusing
 mod Answering

@@ -2,7 +2,7 @@
 use Rattle.std.proofs.Common.{◌≡◌, ℕ, ◌<◌, ◌≤◌, Bool, true, false, List, [], Option, Some, None, refl, length, ltb}
 use Rattle.std.proofs.lemmas.Bool.{lt-ltb, le-ltb, ltb-true, ltb-false}
 use Rattle.ipdl_commands.specs.Lines.{IfRefused, ItemRefusal, open_input, abstract_symbol, short_tape, item_line}
-use Rattle.ipdl_commands.specs.Lookups.{Network}
+use Rattle.ipdl_forms.specs.Networks.{Network}
 use Rattle.ipdl_commands.specs.Running.{IsRunRefusal, run_refusal}
 use Rattle.ipdl_commands.specs.declared.fault.CommandFault.{CommandFault}
 use Rattle.ipdl_commands.specs.declared.fault.CommandFault.TheVariants.{Refused, Memory}

@@ -2,7 +2,7 @@
 use Rattle.std.proofs.Common.{◌≡◌, ℕ, Bool, List, Option, Some, None, ◌⊎◌, inl, inr, refl, sym, ap, ◌∙◌}
 use Rattle.std.proofs.lemmas.Option.{same_Some}
 use Rattle.ipdl_commands.specs.Lines.{ItemRefusal, no_item, item_line}
-use Rattle.ipdl_commands.specs.Lookups.{Network}
+use Rattle.ipdl_forms.specs.Networks.{Network}
 use Rattle.ipdl_commands.specs.Running.{IsRunAnswer, IsRunRefusal, run_refusal, run_text}
 use Rattle.ipdl_sig.specs.declared.symbol.Symbol.{Symbol}
 

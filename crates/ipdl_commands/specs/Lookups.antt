@@ -1,27 +1,12 @@
--- The protocols that the items of a document name.
-use Rattle.std.specs.Prelude.{ℕ, ◌≤◌, List, [], ◌∷◌, bytes_eq, Option, Some, None, if◌then◌else◌}
-use Rattle.ipdl_term.specs.declared.interface.Interface.{Interface}
-use Rattle.ipdl_term.specs.Terms.{Protocol}
+-- The protocols of a document that the commands take.
+use Rattle.std.specs.Prelude.{ℕ, ◌≤◌, List, [], ◌∷◌}
 use Rattle.ipdl_forms.specs.Documents.{Entry, symbol_entry, protocol_entry, assumption_entry, theorem_entry}
+use Rattle.ipdl_forms.specs.Networks.{Network}
 use Rattle.ipdl_sig.specs.declared.symbol.Symbol.{Symbol}
 use Rattle.ipdl_term.specs.Sizes.{most_nodes, protocol_nodes}
 use Rattle.ipdl_term.specs.Typing.{HasInterface}
 use Rattle.ipdl_term.specs.Within.{IsProtocolWithin}
 use Rattle.ipdl_typing.specs.Signatures.{signature_of}
-
--- a protocol with its interface
-pub record Network : Type 0 where
-  pub interface : Interface
-  pub body : Protocol
-
--- the first protocol of the name
-abbrev pub network_named : List Entry → List ℕ → Option Network
-network_named [] name = None
-network_named (symbol_entry n s ∷ entries) name = network_named entries name
-network_named (protocol_entry other interface body ∷ entries) name =
-    if bytes_eq other name then Some (record { interface = interface; body = body }) else network_named entries name
-network_named (assumption_entry other left right ∷ entries) name = network_named entries name
-network_named (theorem_entry other left right lefts rights ∷ entries) name = network_named entries name
 
 -- the bodies of the protocols name symbols among so many, and each variable in them has a binder
 abbrev pub HasBodiesWithin : ℕ → List Entry → Type 0

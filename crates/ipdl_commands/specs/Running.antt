@@ -3,7 +3,7 @@ use Rattle.std.specs.Prelude.{◌≡◌, ℕ, nat_lt, Bool, List, [], ◌∷◌,
 use Rattle.std.specs.Fmt.{decimal}
 use Rattle.std.specs.Option.{option_or}
 use Rattle.ipdl_commands.specs.Lines.{literal_text, ItemRefusal, no_item, open_input, abstract_symbol, short_tape, item_line}
-use Rattle.ipdl_commands.specs.Lookups.{Network, network_named}
+use Rattle.ipdl_forms.specs.Networks.{Network, network_named}
 use Rattle.ipdl_forms.specs.Documents.{Document}
 use Rattle.ipdl_mean.specs.Refusals.{first_abstract}
 use Rattle.ipdl_printing.specs.Printing.{symbol_name}

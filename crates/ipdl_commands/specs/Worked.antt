@@ -1,6 +1,6 @@
 -- A worked example: a random bit, its opposite, and an output that waits for itself.
 use Rattle.std.specs.Prelude.{ℕ, List, [], ◌∷◌, codes}
-use Rattle.ipdl_commands.specs.Lookups.{Network}
+use Rattle.ipdl_forms.specs.Networks.{Network}
 use Rattle.ipdl_term.specs.Terms.{Protocol, assignment, parallel, binding, flipping, reading, returning, negation, variable}
 use Rattle.ipdl_term.specs.declared.interface.Port.{Port}
 

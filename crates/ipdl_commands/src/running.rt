@@ -3,9 +3,10 @@
 ghost use Rattle.std.specs.Prelude.{◌≡◌, ◌++◌, Some, IsTrue, IfOk, IfErr, IfSome};
 ghost use Rattle.ipdl_base.specs.Names.{is_name};
 ghost use Rattle.ipdl_commands.specs.Lines.{IfRefused};
-ghost use Rattle.ipdl_commands.specs.Lookups.{network_named, IsTypedNetwork};
+ghost use Rattle.ipdl_forms.specs.Networks.{network_named};
+ghost use Rattle.ipdl_commands.specs.Lookups.{IsTypedNetwork};
 ghost use Rattle.ipdl_commands.specs.Running.{coins_line, output_lines, IsRunAnswer, IsRunRefusal, AnswersRun, RefusesRun};
-ghost use Rattle.ipdl_commands.specs.Views.{network_of};
+ghost use Rattle.ipdl_forms.specs.Networks.{network_of};
 ghost use Rattle.ipdl_forms.specs.Documents.{document_of};
 ghost use Rattle.ipdl_printing.specs.Printing.{symbol_name};
 ghost use Rattle.ipdl_term.specs.Typing.{port_names};

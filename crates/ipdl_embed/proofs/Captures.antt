@@ -1,15 +1,19 @@
 -- New names that are captured, and names that are kept below hidden channels.
-use Rattle.std.proofs.Common.{◌≡◌, Bool, true, false, ◌&&◌, ◌||◌, not, if◌then◌else◌, List, [], ◌∷◌, ◌++◌, slice_get, Option, Some, None, refl, sym, ap, ◌∙◌}
+use Rattle.std.proofs.Common.{◌≡◌, ◌↔◌, ℕ, ◌+◌, ◌<◌, ◌≤◌, Bool, true, false, ◌&&◌, ◌||◌, not, if◌then◌else◌, List, [], ◌∷◌, ◌++◌, slice_get, drop, length, get_or, Bor, Option, Some, None, refl, sym, ap, ◌∙◌}
+use Rattle.std.specs.List.{filter}
 use Rattle.std.specs.Map.{values_of}
+use Rattle.std.specs.Option.{option_copied}
+use Rattle.std.proofs.lemmas.Bool.{false≢true}
+use Rattle.std.proofs.lemmas.List.{at_drop_more, drop_all}
 use mathlib.Core.Path.{fun_ext}
-use Rattle.ipdl_term.specs.Channels.{same_channel, has, AreDisjoint}
+use Rattle.ipdl_term.specs.Channels.{same_channel, has, SameSet, AreDisjoint}
 use Rattle.ipdl_term.specs.Renaming.{Renaming, renaming_of, keeping}
 use Rattle.ipdl_term.specs.Terms.{Channel}
-use Rattle.ipdl_term.proofs.ChannelSets.{same_channel-sound, has-intersection}
-use Rattle.ipdl_embed.specs.Captures.{captured}
+use Rattle.ipdl_term.proofs.ChannelSets.{same_channel-sound, same_channel-itself, has-intersection}
+use Rattle.ipdl_embed.specs.Captures.{captured, first_captured_target}
 use Rattle.ipdl_embed.specs.Pairs.{Pairs, new_name}
 use Rattle.ipdl_embed.specs.Tables.{keeping_all}
-use Rattle.ipdl_embed.proofs.Visible.{name_there, name_kept}
+use Rattle.ipdl_embed.proofs.SeenPorts.{name_there, name_kept}
 
 -- ---- the first captured name
 
@@ -47,6 +51,58 @@ none_captured pairs hidden none c new =
     go : (b : Bool) → (b && true) ≡ false → b ≡ false
     go true is = cc
     go false is = refl
+
+-- ---- the first new name that is hidden
+
+-- the set alone counts, and not the order of its list
+pub first_captured_target-same : (pairs : Pairs) (hidden others : List Channel) → SameSet hidden others → first_captured_target pairs hidden ≡ first_captured_target pairs others
+first_captured_target-same pairs hidden others same = ap (λ test. slice_get (filter test (values_of pairs)) 0) (fun_ext same)
+
+-- there is none exactly where no new name is hidden
+no_first : (hidden names : List Channel) → slice_get (filter (has hidden) names) 0 ≡ None → AreDisjoint names hidden
+no_first hidden [] none c there = absurd (false≢true there)
+no_first hidden (d ∷ names) none c there = go (has hidden d) refl none (same_channel d c) refl there (λ none there. no_first hidden names none c there)
+  where
+    go : (b : Bool) → has hidden d ≡ b → slice_get (if b then (d ∷ filter (has hidden) names) else filter (has hidden) names) 0 ≡ None → (s : Bool) → same_channel d c ≡ s → (s || has names c) ≡ true → (slice_get (filter (has hidden) names) 0 ≡ None → has names c ≡ true → has hidden c ≡ false) → has hidden c ≡ false
+    go true is none s e there rest = cc
+    go false is none true e there rest = ap (has hidden) (sym (same_channel-sound d c e)) ∙ is
+    go false is none false e there rest = rest none there
+
+first_is_none : (hidden names : List Channel) → AreDisjoint names hidden → slice_get (filter (has hidden) names) 0 ≡ None
+first_is_none hidden [] disjoint = refl
+first_is_none hidden (d ∷ names) disjoint =
+    ap (λ b. slice_get (if b then (d ∷ filter (has hidden) names) else filter (has hidden) names) 0) (disjoint d (ap (λ b. b || has names d) (same_channel-itself d)))
+    ∙ first_is_none hidden names (λ c there. disjoint c (ap (λ b. same_channel d c || b) there ∙ or_true (same_channel d c)))
+  where
+    or_true : (b : Bool) → (b || true) ≡ true
+    or_true true = refl
+    or_true false = refl
+
+pub first_captured_target-none : (pairs : Pairs) (hidden : List Channel) → (first_captured_target pairs hidden ≡ None) ↔ AreDisjoint (values_of pairs) hidden
+first_captured_target-none pairs hidden = (no_first hidden (values_of pairs), first_is_none hidden (values_of pairs))
+
+-- as the program tells it
+pub none_where_disjoint : (pairs : Pairs) (hidden : List Channel) (o : Option (Bor (List ℕ))) → option_copied o ≡ first_captured_target pairs hidden → (o ≡ None) ↔ AreDisjoint (values_of pairs) hidden
+none_where_disjoint pairs hidden None is =
+    (λ _. (first_captured_target-none pairs hidden).0 (sym is), λ _. refl)
+none_where_disjoint pairs hidden (Some name) is =
+    (λ none. cc, λ disjoint. let none : Some name.now ≡ None = is ∙ (first_captured_target-none pairs hidden).1 disjoint in cc)
+
+-- the rest of the pairs, from the one that is looked at
+target-drop : (hidden : List Channel) (pairs : Pairs) (n : ℕ) (pair : Channel × Channel) (b : Bool) → n < length pairs → get_or pairs n pair ≡ pair → has hidden pair.1 ≡ b → first_captured_target (drop n pairs) hidden ≡ slice_get (if b then (pair.1 ∷ filter (has hidden) (values_of (drop (n + 1) pairs))) else filter (has hidden) (values_of (drop (n + 1) pairs))) 0
+target-drop hidden pairs n pair b within at is =
+    at_drop_more (λ list. first_captured_target list hidden) pairs n pair within
+    ∙ ap (λ p. first_captured_target (p ∷ drop (n + 1) pairs) hidden) at
+    ∙ ap (λ t. slice_get (if t then (pair.1 ∷ filter (has hidden) (values_of (drop (n + 1) pairs))) else filter (has hidden) (values_of (drop (n + 1) pairs))) 0) is
+
+pub target_here : (hidden : List Channel) (pairs : Pairs) (n : ℕ) (pair : Channel × Channel) → n < length pairs → get_or pairs n pair ≡ pair → has hidden pair.1 ≡ true → first_captured_target pairs hidden ≡ first_captured_target (drop n pairs) hidden → Some pair.1 ≡ first_captured_target pairs hidden
+target_here hidden pairs n pair within at there same = sym (same ∙ target-drop hidden pairs n pair true within at there)
+
+pub target_later : (hidden : List Channel) (pairs : Pairs) (n : ℕ) (pair : Channel × Channel) → n < length pairs → get_or pairs n pair ≡ pair → has hidden pair.1 ≡ false → first_captured_target pairs hidden ≡ first_captured_target (drop n pairs) hidden → first_captured_target pairs hidden ≡ first_captured_target (drop (n + 1) pairs) hidden
+target_later hidden pairs n pair within at absent same = same ∙ target-drop hidden pairs n pair false within at absent
+
+pub no_target : (hidden : List Channel) (pairs : Pairs) (n : ℕ) → length pairs ≤ n → first_captured_target pairs hidden ≡ first_captured_target (drop n pairs) hidden → None ≡ first_captured_target pairs hidden
+no_target hidden pairs n past same = sym (same ∙ ap (λ list. first_captured_target list hidden) (drop_all n pairs past))
 
 -- ---- names that are kept
 

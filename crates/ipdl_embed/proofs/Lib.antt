@@ -2,6 +2,6 @@
 pub mod PairLaws
 pub mod NameSets
 pub mod Completions
-pub mod Visible
+pub mod SeenPorts
 pub mod Captures
 pub mod Followed

@@ -23,6 +23,10 @@ renaming_in table = λ c. unwrap_or (found_in table c) c
 abbrev pub holds : {S : Type 0} → HashSet (Bor (List ℕ)) S → Channel → Bool
 holds names c = contains_by (λ key. bytes_eq c key.now) names
 
+-- the width that the table has under a name
+abbrev pub seen_in : {S : Type 0} → HashMap (Bor (List ℕ)) ℕ S → Channel → Option ℕ
+seen_in table c = get_by (λ key. bytes_eq c key.now) table
+
 -- the channels of a set keep their names
 abbrev pub keeping_all : (Channel → Bool) → Renaming → Renaming
 keeping_all kept f = λ c. if kept c then c else f c

@@ -7,6 +7,7 @@ ghost use Rattle.std.specs.Prelude.{◌≡◌, [], ◌∷◌, ◌++◌, false, I
 ghost use Rattle.ipdl_term.specs.Channels.{has, same_channel};
 ghost use Rattle.ipdl_embed.specs.Pairs.{new_name, old_name};
 
+use crate::shared::SharedPairs;
 use ipdl_base::{Name, NoMemory};
 use std::alloc::Global;
 use std::collections::HashMap;
@@ -36,6 +37,13 @@ impl Model for Renaming {
     ghost invariant = { λ r. IsIndexed r.pairs.items (found_in r.targets) (found_in r.sources) };
 }
 
+// The pair, whose names share their texts.
+fn copied_pair(alloc: Global, pair: &(Name, Name)) -> Result<(Name, Name), NoMemory>
+    ensures { IfOk result (λ copied. copied ≡ pair.now) }
+{
+    Ok((pair.0.copy(alloc)?, pair.1.copy(alloc)?))
+}
+
 impl Renaming {
     // No channel.
     pub(crate) fn empty(alloc: Global) -> Renaming
@@ -55,6 +63,18 @@ impl Renaming {
         ensures distinct { IsDistinct same_channel (values_of self.now) }
     {
         self.pairs.as_slice()
+    }
+
+    /// The pairs, in memory that their holders share.
+    pub fn shared_pairs(&self, alloc: Global) -> Result<SharedPairs, NoMemory>
+        ensures { IfOk result (λ pairs. pairs ≡ self.now) }
+    {
+        let pairs = self.pairs();
+        let mut copied = Vec::new(alloc);
+        for pair in pairs {
+            copied.push(copied_pair(alloc, pair)?)?;
+        }
+        SharedPairs::from_vec(copied)
     }
 
     // The new name of the channel.

@@ -26,4 +26,5 @@ pub mod OuterNames
 pub mod OffsetlessSteps
 pub mod OffsetlessItems
 pub mod Lookups
+pub mod Networks
 pub mod PlainFaults

@@ -12,5 +12,6 @@ pub mod Documents
 pub mod Steps
 pub mod Items
 pub mod Lookups
+pub mod Networks
 pub mod Earlier
 pub mod Limits

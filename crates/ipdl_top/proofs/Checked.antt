@@ -20,7 +20,7 @@ use Rattle.ipdl_script.specs.declared.theorem.Book.{Book}
 use Rattle.ipdl_term.specs.Steps.{step_of}
 use Rattle.ipdl_term.specs.Views.{protocol_of}
 use Rattle.ipdl_top.proofs.Firsts.{no_first}
-use Rattle.ipdl_commands.proofs.Networks.{network_named-found}
+use Rattle.ipdl_forms.proofs.Networks.{network_named-found}
 use Rattle.ipdl_top.proofs.Stops.{IsStop-first, IsStop-same}
 use Rattle.ipdl_top.proofs.Theorems.{none_mapped, length_refusal-short}
 use Rattle.ipdl_top.specs.Books.{held_claim}

@@ -17,7 +17,8 @@ use Rattle.ipdl_typing.proofs.SameInterfaces.{HasInterface-same}
 use Rattle.ipdl_typing.specs.Interfaces.{HasEachNameOnce}
 use Rattle.ipdl_typing.specs.Signatures.{signature_of}
 use Rattle.ipdl_top.proofs.PortNames.{HasEachNameOnce-spelled}
-use Rattle.ipdl_commands.specs.Lookups.{Network, network_named, IsTypedNetwork}
+use Rattle.ipdl_forms.specs.Networks.{Network, network_named}
+use Rattle.ipdl_commands.specs.Lookups.{IsTypedNetwork}
 use Rattle.ipdl_top.specs.Typed.{AreTyped, IsTypedDocument, HaveSamePorts}
 
 -- the body is within the limits and has the interface, which has no name twice

@@ -15,7 +15,7 @@ use Rattle.ipdl_typing.proofs.ProtocolTyping.{HasInterface-clean}
 use Rattle.ipdl_typing.proofs.Typed.{interface-HasInterface}
 use Rattle.ipdl_typing.proofs.Ports.{SamePorts-sides, sides-SamePorts}
 use Rattle.ipdl_forms.specs.Documents.{Document, Entry, symbol_entry, protocol_entry, assumption_entry, theorem_entry}
-use Rattle.ipdl_commands.specs.Lookups.{Network, network_named}
+use Rattle.ipdl_forms.specs.Networks.{Network, network_named}
 use Rattle.ipdl_top.specs.Refusals.{ill, first_refusal}
 use Rattle.ipdl_top.specs.Statuses.{Refusal}
 use Rattle.ipdl_top.specs.Typed.{protocol_refusal, sides_refusal, item_refusal, judged_by_type, type_refusal, HaveSamePorts, IsTypedProtocol, IsTypedItem, AreTyped, IsTypedDocument}

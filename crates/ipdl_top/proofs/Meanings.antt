@@ -12,7 +12,7 @@ use Rattle.ipdl_typing.specs.Signatures.{signature_of}
 use Rattle.ipdl_top.proofs.WholeTables.{TablesAreWhole-spelled}
 use Rattle.ipdl_top.proofs.Fitting.{IsFitNetwork, AreFitNetworks, IsFitNetwork-named, AreFitNetworks-spelled, HasInterface-across}
 use Rattle.ipdl_top.specs.Chains.{Claim, claim_between, claim_of, item_neighbours}
-use Rattle.ipdl_commands.specs.Lookups.{Network, network_named}
+use Rattle.ipdl_forms.specs.Networks.{Network, network_named}
 use Rattle.ipdl_top.specs.Meanings.{HasEqualNeighbours, HasEqualSides, IsSoOfClaim, IsSoOfItem, IsSoOfTheorems}
 use Rattle.ipdl_top.specs.Requests.{check}
 use Rattle.ipdl_top.specs.Runs.{IsAnswered}

@@ -8,7 +8,7 @@ use Rattle.ipdl_forms.specs.Documents.{Document, Entry, symbol_entry, protocol_e
 use Rattle.ipdl_forms.specs.Items.{SpellsDocument, AreEntries, nothing_earlier, earlier_with}
 use Rattle.ipdl_forms.specs.Lists.{is_among}
 use Rattle.ipdl_forms.specs.Steps.{Earlier}
-use Rattle.ipdl_commands.specs.Lookups.{Network, network_named}
+use Rattle.ipdl_forms.specs.Networks.{Network, network_named}
 
 -- a protocol has the name
 abbrev pub IsThere : List Entry → List ℕ → Type 0

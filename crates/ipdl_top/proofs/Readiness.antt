@@ -33,11 +33,10 @@ use Rattle.ipdl_term.specs.declared.step.Step.{Step as HeldStep}
 use Rattle.ipdl_tree.specs.Trees.{Located, Forest, no_trees, tree}
 use Rattle.ipdl_top.proofs.Fitting.{AreFitNetworks, IsFitNetwork-named, AreFitNetworks-spelled, HasInterface-across}
 use Rattle.ipdl_top.proofs.Named.{IsThere, HasSides, HaveSides, HaveSides-spelled}
-use Rattle.ipdl_commands.proofs.Networks.{network_named-found}
-use Rattle.ipdl_commands.specs.Views.{network_of}
+use Rattle.ipdl_forms.proofs.Networks.{network_named-found}
 use Rattle.ipdl_top.proofs.Spelled.{IsExpressionWithin-spelled, IsReactionWithin-spelled, IsProtocolWithin-spelled}
 use Rattle.ipdl_top.specs.Books.{IsReadyItem}
-use Rattle.ipdl_commands.specs.Lookups.{Network, network_named}
+use Rattle.ipdl_forms.specs.Networks.{Network, network_named, network_of}
 use Rattle.ipdl_top.specs.Typed.{HaveSamePorts, IsTypedItem, AreTyped, IsTypedDocument}
 
 -- ---- steps

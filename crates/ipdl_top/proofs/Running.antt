@@ -1,7 +1,7 @@
 -- There is one reply to the request to run an item of a document whose items are well typed.
 use Rattle.std.proofs.Common.{ℕ, Bool, List, ◌⊎◌, refl, sym, ap, ◌∙◌, inl, inr}
 use Rattle.ipdl_commands.proofs.Replies.{one_answer, one_refusal, not_both, some_reply}
-use Rattle.ipdl_commands.specs.Lookups.{network_named}
+use Rattle.ipdl_forms.specs.Networks.{network_named}
 use Rattle.ipdl_commands.specs.Running.{AnswersRun, RefusesRun}
 use Rattle.ipdl_forms.specs.Documents.{Document}
 use Rattle.ipdl_top.specs.Running.{IsRunRefusal, IsRunAnswer}

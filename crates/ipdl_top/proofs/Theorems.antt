@@ -22,7 +22,7 @@ use Rattle.ipdl_top.proofs.ItemTypes.{passed, not_refused}
 use Rattle.ipdl_top.proofs.Named.{HasSides, HaveSides}
 use Rattle.ipdl_top.proofs.Stops.{IsStop-first, IsStop-same}
 use Rattle.ipdl_top.specs.Chains.{Claim, claim_between, claim_chain, claim_text, item_neighbours, items_neighbours, item_text, items_text, theorem_count, chains_text, proved_text}
-use Rattle.ipdl_commands.specs.Lookups.{Network, network_named}
+use Rattle.ipdl_forms.specs.Networks.{Network, network_named}
 use Rattle.ipdl_top.specs.Refusals.{first_refusal}
 use Rattle.ipdl_top.specs.Scripts.{are_built_steps, item_offset, wrong_refusal, length_refusal, claim_refusal, theorem_refusal, judged_by_script, script_refusal, HasChain, IsProvedItem, AreProved, IsProvedDocument, HasShortChains}
 use Rattle.ipdl_top.specs.Statuses.{Refusal}

@@ -8,7 +8,7 @@ use Rattle.ipdl_script.specs.Steps.{Setting}
 use Rattle.ipdl_sig.specs.declared.symbol.Symbol.{Symbol}
 use Rattle.ipdl_term.specs.Steps.{Step}
 use Rattle.ipdl_typing.specs.Signatures.{signature_of}
-use Rattle.ipdl_commands.specs.Lookups.{Network, network_named}
+use Rattle.ipdl_forms.specs.Networks.{Network, network_named}
 
 -- ---- claims
 

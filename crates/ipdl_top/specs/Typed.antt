@@ -11,7 +11,7 @@ use Rattle.ipdl_typing.specs.Checks.{first_failure, side_failures}
 use Rattle.ipdl_typing.specs.Interfaces.{SamePorts, interface_failures}
 use Rattle.ipdl_typing.specs.Signatures.{signature_of}
 use Rattle.ipdl_forms.specs.Documents.{Document, Entry, symbol_entry, protocol_entry, assumption_entry, theorem_entry}
-use Rattle.ipdl_commands.specs.Lookups.{Network, network_named}
+use Rattle.ipdl_forms.specs.Networks.{Network, network_named}
 use Rattle.ipdl_top.specs.Refusals.{ill, many_channels, too_deep, first_refusal}
 use Rattle.ipdl_top.specs.Statuses.{Refusal}
 

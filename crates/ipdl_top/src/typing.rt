@@ -6,7 +6,7 @@ ghost use Rattle.ipdl_term.specs.Sizes.{channel_count, printed_depth, greatest_p
 ghost use Rattle.ipdl_term.specs.Terms.{Protocol};
 ghost use Rattle.ipdl_term.specs.Views.{protocol_of};
 ghost use Rattle.ipdl_forms.specs.Documents.{entry_of, document_of};
-ghost use Rattle.ipdl_commands.specs.Lookups.{network_named};
+ghost use Rattle.ipdl_forms.specs.Networks.{network_named};
 ghost use Rattle.ipdl_top.specs.Told.{Tests};
 ghost use Rattle.ipdl_top.specs.Typed.{protocol_refusal, sides_refusal, item_refusal, type_refusal};
 

@@ -1,5 +1,5 @@
 use Rattle.ipdl_commands.proofs.Replies.{some_reply, one_answer, one_refusal, not_both}
-use Rattle.ipdl_commands.specs.Lookups.{network_named}
+use Rattle.ipdl_forms.specs.Networks.{network_named}
 use Rattle.ipdl_commands.proofs.laws.run_has_one_reply.Goals as goal
 
 pub returns-clause-some : goal.returns-clause-some

@@ -1,7 +1,7 @@
 use Rattle.std.proofs.Common.{◌≡◌, Err, ap, subst, ◌∙◌}
 use Rattle.ipdl_commands.proofs.Answering.{IsRunAnswer-solved}
 use Rattle.ipdl_commands.proofs.Refusing.{IfRefused-refusal, run_refusal-input, run_refusal-symbol, run_refusal-tape}
-use Rattle.ipdl_commands.specs.Views.{network_of}
+use Rattle.ipdl_forms.specs.Networks.{network_of}
 use Rattle.ipdl_mean.specs.Refusals.{IsShort}
 use Rattle.ipdl_mean.specs.declared.fault.NetFault.TheVariants as N
 use Rattle.ipdl_mean.specs.declared.fault.SolveFault.TheVariants as S

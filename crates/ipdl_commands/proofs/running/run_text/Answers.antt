@@ -1,5 +1,5 @@
 use Rattle.std.proofs.Common.{Some, None, IfOk, IfErr, IfSome, refl, sym, subst}
-use Rattle.ipdl_commands.proofs.Networks.{network_named-by_copy}
+use Rattle.ipdl_forms.proofs.Networks.{network_named-by_copy}
 use Rattle.ipdl_commands.proofs.Refusing.{IfRefused-refusal}
 use Rattle.ipdl_commands.specs.Lines.{IfRefused, no_item}
 use Rattle.ipdl_commands.specs.Lookups.{IsTypedNetwork}

@@ -8,5 +8,5 @@ use Rattle.ipdl_embed.proofs.fitting.first_unfit.Given as goal
 -- the ports so far fit
 abbrev pub invariant-loop-place : goal.invariant-loop-place
 invariant-loop-place l =
-    first_unfit (scope_of l.fn.scope) (renaming_of l.fn.renaming) l.fn.ports
-    ≡ option_map (λ n. l.place + n) (first_unfit (scope_of l.fn.scope) (renaming_of l.fn.renaming) (drop l.place l.fn.ports))
+    first_unfit (scope_of l.fn.visible) (renaming_of l.fn.renaming) l.fn.ports
+    ≡ option_map (λ n. l.place + n) (first_unfit (scope_of l.fn.visible) (renaming_of l.fn.renaming) (drop l.place l.fn.ports))

@@ -1,5 +1,5 @@
 use Rattle.std.proofs.Common.{refl}
-use Rattle.ipdl_commands.specs.Lookups.{network_named}
+use Rattle.ipdl_forms.specs.Networks.{network_named}
 use Rattle.ipdl_forms.specs.Documents.{document_of}
 use Rattle.ipdl_top.proofs.Fitting.{AreFitNetworks-spelled, IsTypedNetwork-named}
 use Rattle.ipdl_top.proofs.answering.answer_to_run.Goals as goal

@@ -1,8 +1,8 @@
 use Rattle.std.proofs.Common.{map, ◌∙◌}
 use Rattle.ipdl_forms.specs.Documents.{entry_of}
-use Rattle.ipdl_commands.specs.Lookups.{network_named}
+use Rattle.ipdl_forms.specs.Networks.{network_named}
 use Rattle.ipdl_top.proofs.ItemTypes.{sides_refusal-no_left, sides_refusal-no_right, sides_refusal-both, no_refusal}
-use Rattle.ipdl_commands.proofs.Networks.{network_named-found}
+use Rattle.ipdl_forms.proofs.Networks.{network_named-found}
 use Rattle.ipdl_top.proofs.Stops.{IsStop-same}
 use Rattle.ipdl_top.proofs.typing.test_sides.Goals as goal
 

@@ -1,0 +1,2 @@
+-- The statements on uses of protocols.
+pub mod Sites

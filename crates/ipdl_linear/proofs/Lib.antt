@@ -1,0 +1,13 @@
+pub mod BitByBit
+pub mod Booleans
+pub mod Differences
+pub mod FormLists
+pub mod FormValues
+pub mod Numbers
+pub mod Places
+pub mod Standing
+pub mod Starting
+pub mod Walks
+pub mod ZeroTests
+pub mod Growing
+pub mod Nodes

@@ -1,0 +1,9 @@
+use Rattle.std.proofs.Common.{length, ◌-◌, ◌+◌, ◌≡◌, ◌≤◌, ◌++◌, drop}
+use Rattle.ipdl_linear.specs.Numbers.{merged}
+use Rattle.ipdl_linear.proofs.merging.merged.Given as goal
+
+abbrev pub invariant-loop-i : goal.invariant-loop-i
+invariant-loop-i l = (l.i ≤ length l.a) × (l.j ≤ length l.b) × (l.numbers.items ++ merged (drop l.i l.a) (drop l.j l.b) ≡ merged l.a l.b)
+
+abbrev pub decreases-loop-i : goal.decreases-loop-i
+decreases-loop-i l = (length l.a - l.i) + (length l.b - l.j)

@@ -1,0 +1,13 @@
+pub mod Changing
+pub mod Grafting
+pub mod Growing
+pub mod Counting
+pub mod TidyMeanings
+pub mod Sorting
+pub mod Gathering
+pub mod Grouping
+pub mod StructureTyping
+pub mod StructureLaws
+pub mod Becoming
+pub mod NewNames
+pub mod ShapeMeanings

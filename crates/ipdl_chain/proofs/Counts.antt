@@ -3,13 +3,15 @@ use Rattle.std.proofs.Common.{◌≡◌, ℕ, suc, ◌+◌, List, [], ◌∷◌,
 use Rattle.std.proofs.lemmas.List.Sums.{sum_by-cons}
 use Rattle.std.specs.List.{sum_by}
 use Rattle.ipdl_term.specs.declared.protocol.Proto.{Proto}
-use Rattle.ipdl_chain.specs.Chains.{Mark, by_rule, Link, neighbour_count, exact_in, assumed_in, count_in, exact_count, assumed_count, count_of}
+use Rattle.ipdl_chain.specs.Chains.{Mark, by_rule, by_theorem, by_assumption, Link, neighbour_count, exact_in, assumed_in, count_in, exact_count, assumed_count, count_of}
 use Rattle.ipdl_chain.specs.declared.chain.Mark.{Mark as HeldMark}
 use Rattle.ipdl_chain.specs.Views.{mark_of, others_of, links_of}
 
 -- each mark is exact or an assumption
 one_each : (mark : Mark) → exact_in mark + assumed_in mark ≡ 1
 one_each (by_rule direction word place) = refl
+one_each (by_theorem direction name place pairs) = refl
+one_each (by_assumption direction name place pairs C) = refl
 
 pub neighbour_count-sum : (links : List Link) → neighbour_count links ≡ exact_count links + assumed_count links
 neighbour_count-sum [] = refl

@@ -2,14 +2,18 @@
 use Rattle.std.proofs.Common.{◌≡◌, List, [], ◌∷◌, ◌++◌, refl, sym, ap, ap₂, ◌∙◌, append_assoc, append-nil}
 use Rattle.ipdl_term.specs.Steps.{Direction, lr, rl}
 use Rattle.ipdl_term.specs.Terms.{Protocol}
-use Rattle.ipdl_chain.specs.Chains.{Mark, by_rule, Link, last_of, turned_direction, turned_mark, turned_links}
+use Rattle.ipdl_chain.specs.Chains.{Mark, by_rule, by_theorem, by_assumption, Link, last_of, turned_direction, turned_mark, turned_links}
 
 turned_direction-turned : (direction : Direction) → turned_direction (turned_direction direction) ≡ direction
 turned_direction-turned lr = refl
 turned_direction-turned rl = refl
 
-turned_mark-turned : (mark : Mark) → turned_mark (turned_mark mark) ≡ mark
+pub turned_mark-turned : (mark : Mark) → turned_mark (turned_mark mark) ≡ mark
 turned_mark-turned (by_rule direction word place) = ap (λ d. by_rule d word place) (turned_direction-turned direction)
+turned_mark-turned (by_theorem direction name place pairs) =
+    ap (λ d. by_theorem d name place pairs) (turned_direction-turned direction)
+turned_mark-turned (by_assumption direction name place pairs C) =
+    ap (λ d. by_assumption d name place pairs C) (turned_direction-turned direction)
 
 last_of-append : (term : Protocol) (links later : List Link) → last_of term (links ++ later) ≡ last_of (last_of term links) later
 last_of-append term [] later = refl

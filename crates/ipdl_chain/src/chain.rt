@@ -1,18 +1,39 @@
 //! Chains as the program holds them, and the counts of their marks.
 
 ghost use Rattle.std.specs.Prelude.{◌≡◌, ◌≤◌};
-ghost use Rattle.ipdl_chain.specs.Chains.{count_in, count_of, exact_count, exact_in, neighbour_count};
+ghost use Rattle.ipdl_chain.specs.Chains.{count_in, count_of, exact_count, exact_in, neighbour_count, turned_direction, turned_mark};
 ghost use Rattle.ipdl_chain.specs.Views.{chain_of, mark_of};
+ghost use Rattle.ipdl_term.specs.Steps.{direction_of};
 
 use ipdl_base::{List, Name, Path};
-use ipdl_term::{Dir, Names, Proto};
+use ipdl_embed::SharedPairs;
+use ipdl_term::{Ctx, Dir, Names, Proto};
 
 /// By what a term comes from the one before it.
 #[derive(Drop)]
 pub enum Mark {
     /// The rule of this word at this place. `Dir::Lr` says that the upper term is the rule's left
     /// side.
-    ByRule { dir: Dir, word: Name, path: Path },
+    ByRule {
+        dir: Dir,
+        word: Name,
+        path: Path,
+    },
+    /// The theorem of this name at this place, whose channels have these names there.
+    ByTheorem {
+        dir: Dir,
+        name: Name,
+        path: Path,
+        renaming: SharedPairs,
+    },
+    /// The assumption of this name, likewise, and what is around the place.
+    ByAssumption {
+        dir: Dir,
+        name: Name,
+        path: Path,
+        renaming: SharedPairs,
+        ctx: Ctx,
+    },
 }
 
 /// The chain of a theorem: its terms, from the left protocol to the right one, and the marks
@@ -29,13 +50,62 @@ pub struct Chain {
     pub hidden: Names,
 }
 
+fn turned_dir(dir: Dir) -> Dir
+    ensures { direction_of result ≡ turned_direction (direction_of dir) }
+{
+    match dir {
+        Dir::Lr => Dir::Rl,
+        Dir::Rl => Dir::Lr,
+    }
+}
+
+impl Mark {
+    /// The mark between the same two terms in the other order.
+    pub fn turned(self) -> Mark
+        ensures { mark_of result ≡ turned_mark (mark_of self) }
+    {
+        match self {
+            Mark::ByRule { dir, word, path } => Mark::ByRule {
+                dir: turned_dir(dir),
+                word,
+                path,
+            },
+            Mark::ByTheorem {
+                dir,
+                name,
+                path,
+                renaming,
+            } => Mark::ByTheorem {
+                dir: turned_dir(dir),
+                name,
+                path,
+                renaming,
+            },
+            Mark::ByAssumption {
+                dir,
+                name,
+                path,
+                renaming,
+                ctx,
+            } => Mark::ByAssumption {
+                dir: turned_dir(dir),
+                name,
+                path,
+                renaming,
+                ctx,
+            },
+        }
+    }
+}
+
 // 1 for a mark that is no assumption.
 fn exact_in(mark: &Mark) -> u64
     ensures value { result ≡ exact_in (mark_of mark.now) }
     ensures few { result ≤ 1 }
 {
     match mark {
-        Mark::ByRule { .. } => 1,
+        Mark::ByRule { .. } | Mark::ByTheorem { .. } => 1,
+        Mark::ByAssumption { .. } => 0,
     }
 }
 
@@ -45,7 +115,8 @@ fn count_in(mark: &Mark, assumption: &Name) -> u64
     ensures few { result ≤ 1 }
 {
     match mark {
-        Mark::ByRule { .. } => 0,
+        Mark::ByRule { .. } | Mark::ByTheorem { .. } => 0,
+        Mark::ByAssumption { name, .. } => u64::from(name == assumption),
     }
 }
 

@@ -1,15 +1,15 @@
 //! Laws of chains, of their counts and of their texts. Each is a function that does nothing and has
 //! the law as its contract, so that the check proves it.
 
-ghost use Rattle.std.specs.Prelude.{◌≡◌, ℕ, ◌+◌, List, [], ◌∷◌, ◌++◌, codes, length, map};
-ghost use Rattle.ipdl_chain.specs.Chains.{Link, assumed_count, by_rule, exact_count, last_of, neighbour_count, terms_of, turned_links};
+ghost use Rattle.std.specs.Prelude.{◌≡◌, ℕ, ◌+◌, List, [], ◌∷◌, ◌++◌, codes, length, map, true};
+ghost use Rattle.ipdl_chain.specs.Chains.{Link, assumed_count, by_assumption, by_rule, by_theorem, exact_count, last_of, neighbour_count, terms_of, turned_links};
 ghost use Rattle.ipdl_chain.specs.ChainTexts.{chain_text, links_text};
 ghost use Rattle.ipdl_chain.specs.declared.chain.Chain.{Chain as Held};
 ghost use Rattle.ipdl_chain.specs.Views.{HasOneTermMore, chain_of, mark_of};
-ghost use Rattle.ipdl_chain.specs.Worked.{worked_chain};
+ghost use Rattle.ipdl_chain.specs.Worked.{bit_assignment, worked_chain, worked_uses};
 ghost use Rattle.ipdl_sig.specs.declared.symbol.Symbol.{Symbol};
-ghost use Rattle.ipdl_term.specs.Steps.{rl};
-ghost use Rattle.ipdl_term.specs.Terms.{Protocol};
+ghost use Rattle.ipdl_term.specs.Steps.{lr, rl};
+ghost use Rattle.ipdl_term.specs.Terms.{Protocol, hole, in_right};
 ghost use Rattle.ipdl_term.specs.Views.{protocol_of};
 
 /// Each neighbour is exact or an assumption.
@@ -48,4 +48,14 @@ pub fn worked_example()
         codes "theorem t A B\n0 (par (out a (ret #0)) (out b (ret #1)))\nby rule lr comm ()\n1 (par (out b (ret #1)) (out a (ret #0)))\nexact 1 assumed 0\n" }
     ensures turned { turned_links worked_chain.first worked_chain.links ≡
         record { mark = by_rule rl (codes "comm") []; term = worked_chain.first } ∷ [] }
+{}
+
+/// The worked chain of a theorem and an assumption: its text, and that the marks of its links turned
+/// round go in the other directions.
+pub fn worked_uses_example()
+    ensures printed { chain_text [] (codes "other" ∷ codes "same" ∷ []) (codes "t") (codes "A") (codes "B") worked_uses ≡
+        codes "theorem t A B\n0 (par (out a (ret #0)) (out b (ret #1)))\nby theorem lr swap () ((x a) (y b))\n1 (par (out b (ret #1)) (out a (ret #0)))\nby assume rl same (1) ((x a)) (par (out b (ret #1)) (hole))\n2 (par (out b (ret #1)) (out a (ret #1)))\nexact 1 assumed 1\nassume same 1\n" }
+    ensures turned { map (λ (link : Link). link.mark) (turned_links worked_uses.first worked_uses.links) ≡
+        by_assumption lr (codes "same") (1 ∷ []) ((codes "x", codes "a") ∷ []) (in_right (bit_assignment (codes "b") true) hole)
+        ∷ by_theorem rl (codes "swap") [] ((codes "x", codes "a") ∷ (codes "y", codes "b") ∷ []) ∷ [] }
 {}

@@ -7,5 +7,8 @@ mod laws;
 mod texts;
 
 pub use chain::{Chain, Mark};
-pub use laws::{counts_add_up, links_follow_links, seen_whole, turned_twice, worked_example};
+pub use laws::{
+    counts_add_up, links_follow_links, seen_whole, turned_twice, worked_example,
+    worked_uses_example,
+};
 pub use texts::{chain_text, push_accepted_line, push_chain};

@@ -1,22 +1,25 @@
 //! Pushes the texts of chains, line by line, after what is there.
 
-ghost use Rattle.std.specs.Prelude.{◌≡◌, ◌++◌, [], ◌∷◌, IfOk, OnOk, length, map};
+ghost use Rattle.std.specs.Prelude.{◌≡◌, ◌++◌, [], ◌∷◌, IfOk, OnOk, codes, length, map};
 ghost use Rattle.std.specs.Fmt.{decimal};
-ghost use Rattle.ipdl_chain.specs.ChainTexts.{accepted_line, assumption_line, assumption_lines, assumptions_in, chain_text, count_line, links_text, mark_line, term_line, theorem_line};
-ghost use Rattle.ipdl_chain.specs.Views.{HasOneTermMore, HasTermsWithin, chain_of, mark_of};
+ghost use Rattle.ipdl_chain.specs.ChainTexts.{accepted_line, assumption_line, assumption_lines, assumptions_in, chain_text, count_line, links_text, mark_line, pair_text, renaming_text, term_line, theorem_line};
+ghost use Rattle.ipdl_chain.specs.Views.{HasOneTermMore, IsMarkWithin, IsWithin, chain_of, mark_of};
 ghost use Rattle.ipdl_forms.specs.Documents.{document_of};
 ghost use Rattle.ipdl_forms.specs.Steps.{direction_word};
+ghost use Rattle.ipdl_printing.specs.Printing.{context_tree};
 ghost use Rattle.ipdl_printing.specs.Texts.{place_text, spaced};
 ghost use Rattle.ipdl_term.specs.Steps.{direction_of};
-ghost use Rattle.ipdl_term.specs.Views.{protocol_of};
-ghost use Rattle.ipdl_term.specs.Within.{IsProtocolWithin};
+ghost use Rattle.ipdl_term.specs.Views.{context_of, protocol_of};
+ghost use Rattle.ipdl_term.specs.Within.{IsContextWithin, IsProtocolWithin};
+ghost use Rattle.ipdl_tree.specs.Spelling.{tree_text};
 
 use crate::chain::{Chain, Mark};
 use ipdl_base::{Name, NoMemory, Path};
+use ipdl_embed::SharedPairs;
 use ipdl_forms::{Document, Item};
-use ipdl_printing::push_proto;
+use ipdl_printing::{push_ctx, push_proto};
 use ipdl_sig::Sig;
-use ipdl_term::{Dir, Proto};
+use ipdl_term::{Ctx, Dir, Proto};
 use ipdl_tree::push_number;
 use std::alloc::Global;
 
@@ -85,34 +88,117 @@ fn push_term(text: &mut Vec<u8>, sig: &Sig, number: u64, term: &Proto) -> Result
     Ok(())
 }
 
-fn push_mark(text: &mut Vec<u8>, mark: &Mark) -> Result<(), NoMemory>
-    ensures { OnOk result (text.new.items ≡ text.old.items ++ mark_line (mark_of mark.now)) }
+// A channel and its new name in parentheses, as `(a b)`.
+fn push_pair(text: &mut Vec<u8>, pair: &(Name, Name)) -> Result<(), NoMemory>
+    ensures { OnOk result (text.new.items ≡ text.old.items ++ pair_text pair.now) }
+{
+    text.push(b'(')?;
+    text.extend_from_slice(pair.0.text().as_bytes())?;
+    text.push(b' ')?;
+    text.extend_from_slice(pair.1.text().as_bytes())?;
+    text.push(b')')?;
+    Ok(())
+}
+
+// Pairs with one blank between two neighbours.
+fn push_spaced_pairs(text: &mut Vec<u8>, pairs: &[(Name, Name)]) -> Result<(), NoMemory>
+    ensures { OnOk result (text.new.items ≡ text.old.items ++ spaced (map pair_text pairs.now)) }
+{
+    let [first, others @ ..] = pairs else {
+        return Ok(());
+    };
+    push_pair(text, first)?;
+    for pair in others {
+        text.push(b' ')?;
+        push_pair(text, pair)?;
+    }
+    Ok(())
+}
+
+// The pairs in parentheses, as `((a b) (c d))`.
+fn push_renaming(text: &mut Vec<u8>, renaming: &SharedPairs) -> Result<(), NoMemory>
+    ensures { OnOk result (text.new.items ≡ text.old.items ++ renaming_text renaming.now) }
+{
+    text.push(b'(')?;
+    push_spaced_pairs(text, renaming.as_slice())?;
+    text.push(b')')?;
+    Ok(())
+}
+
+// By what, in which direction, and what it names, at which place: three words and a place.
+fn push_by(text: &mut Vec<u8>, by: &str, dir: Dir, name: &Name, path: &Path) -> Result<(), NoMemory>
+    ensures { OnOk result (text.new.items ≡ text.old.items ++
+        spaced (by.now ∷ direction_word (direction_of dir) ∷ name.now ∷ place_text path.now ∷ [])) }
+{
+    text.extend_from_slice(by.as_bytes())?;
+    text.push(b' ')?;
+    text.extend_from_slice(direction_word(dir).as_bytes())?;
+    text.push(b' ')?;
+    text.extend_from_slice(name.text().as_bytes())?;
+    text.push(b' ')?;
+    push_place(text, path)
+}
+
+// The context after a blank.
+fn push_context(text: &mut Vec<u8>, sig: &Sig, ctx: &Ctx) -> Result<(), NoMemory>
+    requires { IsContextWithin (length sig.now) (context_of ctx.now) }
+    ensures { OnOk result (text.new.items ≡ text.old.items ++ codes " " ++
+        tree_text (context_tree sig.now (context_of ctx.now))) }
+{
+    text.push(b' ')?;
+    push_ctx(text, sig, ctx)
+}
+
+// The renaming after a blank.
+fn push_names(text: &mut Vec<u8>, renaming: &SharedPairs) -> Result<(), NoMemory>
+    ensures { OnOk result (text.new.items ≡ text.old.items ++ codes " " ++ renaming_text renaming.now) }
+{
+    text.push(b' ')?;
+    push_renaming(text, renaming)
+}
+
+fn push_mark(text: &mut Vec<u8>, sig: &Sig, mark: &Mark) -> Result<(), NoMemory>
+    requires { IsMarkWithin (length sig.now) mark.now }
+    ensures { OnOk result (text.new.items ≡ text.old.items ++ mark_line sig.now (mark_of mark.now)) }
 {
     match mark {
-        Mark::ByRule { dir, word, path } => {
-            text.extend_from_slice(b"by rule ")?;
-            text.extend_from_slice(direction_word(*dir).as_bytes())?;
-            text.push(b' ')?;
-            text.extend_from_slice(word.text().as_bytes())?;
-            text.push(b' ')?;
-            push_place(text, path)?;
-            text.push(b'\n')?;
-            Ok(())
+        Mark::ByRule { dir, word, path } => push_by(text, "by rule", *dir, word, path)?,
+        Mark::ByTheorem {
+            dir,
+            name,
+            path,
+            renaming,
+        } => {
+            push_by(text, "by theorem", *dir, name, path)?;
+            push_names(text, renaming)?;
+        }
+        Mark::ByAssumption {
+            dir,
+            name,
+            path,
+            renaming,
+            ctx,
+        } => {
+            push_by(text, "by assume", *dir, name, path)?;
+            push_names(text, renaming)?;
+            push_context(text, sig, ctx)?;
         }
     }
+    text.push(b'\n')?;
+    Ok(())
 }
 
 // Each mark, and then the term that comes by it, from the term of number 1 on.
 fn push_links(text: &mut Vec<u8>, sig: &Sig, chain: &Chain) -> Result<(), NoMemory>
     requires paired { HasOneTermMore chain.now }
-    requires within { HasTermsWithin (length sig.now) chain.now }
+    requires within { IsWithin (length sig.now) chain.now }
     ensures { OnOk result
         (text.new.items ≡ text.old.items ++ links_text sig.now 1 (chain_of chain.now).links) }
 {
     let terms = chain.terms.as_slice();
     for (index, mark) in chain.marks.as_slice().iter().enumerate() {
         let number = index + 1;
-        push_mark(text, mark)?;
+        push_mark(text, sig, mark)?;
         push_term(text, sig, number as u64, &terms[number])?;
     }
     Ok(())
@@ -167,7 +253,7 @@ fn push_assumptions(text: &mut Vec<u8>, document: &Document, chain: &Chain) -> R
 /// memory runs out, a part of the text may have been pushed.
 pub fn push_chain(text: &mut Vec<u8>, document: &Document, chain: &Chain) -> Result<(), NoMemory>
     requires paired { HasOneTermMore chain.now }
-    requires within { HasTermsWithin (length document.now.sig) chain.now }
+    requires within { IsWithin (length document.now.sig) chain.now }
     ensures { OnOk result
         (text.new.items ≡ text.old.items ++
         chain_text document.now.sig (assumptions_in (document_of document.now).entries)
@@ -185,7 +271,7 @@ pub fn push_chain(text: &mut Vec<u8>, document: &Document, chain: &Chain) -> Res
 /// The text of the chain alone. Where memory runs out, what is written is dropped.
 pub fn chain_text(alloc: Global, document: &Document, chain: &Chain) -> Result<Vec<u8>, NoMemory>
     requires paired { HasOneTermMore chain.now }
-    requires within { HasTermsWithin (length document.now.sig) chain.now }
+    requires within { IsWithin (length document.now.sig) chain.now }
     ensures { IfOk result
         (λ text. text.items ≡
         chain_text document.now.sig (assumptions_in (document_of document.now).entries)

@@ -1,15 +1,11 @@
 -- Room for the variables: a term has no more binders than nodes, and no variable without one.
-use Rattle.std.proofs.Common.{◌≡◌, ℕ, suc, ◌+◌, ◌*◌, ◌^◌, ◌<◌, ◌≤◌, List, ◌++◌, length, refl, ap, ap₂, ◌∙◌, subst, arith}
+use Rattle.std.proofs.Common.{◌≡◌, ℕ, suc, ◌+◌, ◌*◌, ◌^◌, ◌<◌, ◌≤◌, List, length, refl, ap, ap₂, ◌∙◌, arith}
 use Rattle.std.specs.Prelude.{max}
-use Rattle.std.proofs.lemmas.List.{length-map, length-reverse}
-use Rattle.ipdl_sig.specs.declared.symbol.Symbol.{Symbol}
+use Rattle.std.proofs.lemmas.List.{length-reverse}
 use Rattle.ipdl_term.proofs.WithinLemmas.{IsProtocolWithin-typed}
-use Rattle.ipdl_term.specs.declared.interface.Interface.{Interface}
-use Rattle.ipdl_typing.specs.Signatures.{symbol_of, signature_of}
 use Rattle.ipdl_cursor.proofs.AroundPlaces.{binder_widths-around}
 use Rattle.ipdl_cursor.proofs.Rooms.{room}
 use Rattle.ipdl_rules_r.specs.Room.{greatest_in_rule}
-use Rattle.ipdl_script.specs.Ready.{setting_at}
 use Rattle.ipdl_script.specs.Fitting.{WholeFits, AreArgumentsWithin, IsTermWithin}
 use Rattle.ipdl_script.specs.Settling.{settled_rule}
 use Rattle.ipdl_script.specs.Steps.{Setting, scope_in, around_place}
@@ -18,7 +14,6 @@ use Rattle.ipdl_term.specs.Rules as R
 use Rattle.ipdl_term.specs.Variables.{settled_expression, settled_reaction, settled_protocol}
 use Rattle.ipdl_term.specs.Sizes.{most_nodes, reaction_nodes, protocol_nodes, term_nodes, reaction_binders, protocol_binders, term_binders, greatest_in_expression, greatest_in_reaction, greatest_in_protocol, greatest_in_term}
 use Rattle.ipdl_term.specs.Terms.{Expression, literal, variable, outer, application, exclusive, conjunction, negation, concatenation, segment, equality, selection, Reaction, returning, flipping, reading, branching, binding, Protocol, nil, assignment, parallel, hiding, Term, protocol_term, reaction_term, expression_term}
-use Rattle.ipdl_term.specs.Typing.{scope_of}
 use Rattle.ipdl_term.specs.Within.{IsExpressionWithin, IsReactionWithin, IsProtocolWithin}
 
 -- ---- binders
@@ -66,10 +61,9 @@ greatest_in_protocol-bound n (hiding c w p) h = greatest_in_protocol-bound n p h
 
 -- ---- a whole term that fits
 
--- its symbols are those of the document, and each of its variables has a binder
-pub whole_is_within : (symbols : List Symbol) (interface : Interface) (p : Protocol) → WholeFits (setting_at symbols interface) p → IsProtocolWithin (length symbols) p
-whole_is_within symbols interface p h =
-    subst (λ n. IsProtocolWithin n p) (length-map symbols symbol_of) (IsProtocolWithin-typed (signature_of symbols) (scope_of (interface.inputs ++ interface.outputs)) p h.typed.typed)
+-- its symbols are those of the setting, and each of its variables has a binder
+pub whole_is_within : (x : Setting) (p : Protocol) → WholeFits x p → IsProtocolWithin (length x.sig) p
+whole_is_within x p h = IsProtocolWithin-typed x.sig (scope_in x) p h.typed.typed
 
 -- so its variables have room
 pub whole_has_room : (x : Setting) (p : Protocol) → WholeFits x p → greatest_in_protocol p + protocol_binders p < 2 ^ 32

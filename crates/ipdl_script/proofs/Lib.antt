@@ -2,8 +2,10 @@ pub mod DifferenceLaws
 pub mod InstanceLaws
 pub mod PuttingBack
 pub mod StepTests
+pub mod UseSteps
 pub mod StepLaws
 pub mod ScriptLaws
+pub mod Leading
 pub mod MarkLaws
 pub mod MeaningLaws
 pub mod WrongLaws
@@ -14,8 +16,12 @@ pub mod TableTruth
 pub mod Refusals
 pub mod WholeTerms
 pub mod TrailLists
+pub mod TrailsWithin
 pub mod Scripts
 pub mod RuleWords
 pub mod StepParts
-pub mod HiddenSets
 pub mod Theorems
+pub mod AddedLists
+pub mod AddedTests
+pub mod KnownLemmas
+pub mod UseTests

@@ -1,99 +1,74 @@
--- Each two neighbours of a chain are equal, and so are its ends.
-use Rattle.std.proofs.Common.{◌≡◌, ℕ, ◌+◌, List, [], ◌∷◌, ◌++◌, refl, sym, ap, ◌∙◌, subst}
-use Rattle.std.specs.List.{AllByRecursion}
-use Rattle.std.specs.Prelude.{map}
+-- What the neighbours of a step, of a script and of a chain mean, and where a chain ends.
+use Rattle.std.proofs.Common.{◌≡◌, ℕ, ◌+◌, List, [], ◌∷◌, ◌++◌, sym, ap, ap₂, ◌∙◌, subst}
 use Rattle.ipdl_chain.proofs.Turns.{last_of-turned}
-use Rattle.ipdl_chain.specs.Chains.{Mark, by_rule, Link, Chain, last_of, terms_of, neighbour_count, turned_mark, turned_links}
-use Rattle.ipdl_laws.proofs.EqualLaws.{equal_refl, equal_sym, equal_trans}
+use Rattle.ipdl_chain.specs.Chains.{by_rule, Link, Chain, last_of, neighbour_count, turned_links}
+use Rattle.ipdl_embed.specs.Completing.{completed}
+use Rattle.ipdl_embed.specs.Pairs.{Pairs}
+use Rattle.ipdl_laws.proofs.EqualLaws.{equal_sym}
 use Rattle.ipdl_rules_r.specs.Tables.{TablesAreWhole}
 use Rattle.ipdl_script.proofs.InstanceLaws.{instance_is_equal}
-use Rattle.ipdl_script.proofs.MarkLaws.{last_of-append, each_appended, each_turned, rewritten, rewritten_back}
-use Rattle.ipdl_script.specs.Meanings.{EachTwo, IsRewritten, AreEqual, MeansMark}
+use Rattle.ipdl_script.proofs.Leading.{used_is, step_leads}
+use Rattle.ipdl_script.proofs.MarkLaws.{rewritten, rewritten_back}
+use Rattle.ipdl_script.specs.Meanings.{IsRewritten, LemmasMean}
 use Rattle.ipdl_script.specs.Scripts.{Theorem, links_of_step, count_after, IsScript, IsChain}
-use Rattle.ipdl_script.specs.Steps.{Setting, scope_in, IsStep}
-use Rattle.ipdl_term.specs.Rules.{Rule}
-use Rattle.ipdl_term.specs.Steps.{Step, plain, rev, invoke}
+use Rattle.ipdl_script.specs.Steps.{Setting, scope_in, assumed_in, used_there, IsUseStep, IsStep}
+use Rattle.ipdl_term.specs.Rules.{Rule, rule_word}
+use Rattle.ipdl_term.specs.Steps.{Direction, lr, rl, Step, plain, rev, invoke}
 use Rattle.ipdl_term.specs.Terms.{Protocol}
 use Rattle.ipdl_term.specs.Typing.{HasInterface, port_names}
+use Rattle.ipdl_uses.proofs.Chains.{last_of-append, means_alone, means_one, means_joined, means_turned}
+use Rattle.ipdl_uses.proofs.UsedMeans.{used_means}
+use Rattle.ipdl_uses.specs.Meanings.{AreEqualAt, ChainMeans}
+use Rattle.ipdl_uses.specs.Uses.{used}
 
 module _ (x : Setting) where
-  -- ---- equality at the interface
-
-  turned_round : (p q : Protocol) → AreEqual x p q → AreEqual x q p
-  turned_round p q h = equal_sym x.sig (scope_in x) (port_names x.interface.outputs) p q h
-
-  rewritten_is_equal : TablesAreWhole x.sig → (rule : Rule) (place : List ℕ) (first second : Protocol) → HasInterface x.sig x.interface first → HasInterface x.sig x.interface second → IsRewritten x rule place first second → AreEqual x first second
-  rewritten_is_equal tables rule place first second typed typed' h =
-      instance_is_equal x.sig (scope_in x) (port_names x.interface.outputs) first second place tables rule h.left h.right typed typed' h.there h.whole h.sides
+  -- these links mean what they say from the term on
+  abbrev LinksMean : Protocol → List Link → Type 0
+  LinksMean first links = ChainMeans x.sig x.interface (assumed_in x) (record { first = first; links = links })
 
   -- ---- steps
 
-  pub step_is_equal : TablesAreWhole x.sig → (before : Protocol) (step : Step) (after : Protocol) → HasInterface x.sig x.interface before → IsStep x before step after → AreEqual x before after
-  step_is_equal tables before (plain place rule) after typed h =
-      rewritten_is_equal tables _ place before after typed h.typed (rewritten x before place rule after h)
-  step_is_equal tables before (rev place rule term) after typed h =
-      turned_round after before (rewritten_is_equal tables _ place after before h.typed typed (rewritten_back x before place rule term after h))
-  step_is_equal tables before (invoke place name direction pairs) after typed h = absurd h.change
+  rewritten_is_equal : TablesAreWhole x.sig → (rule : Rule) (place : List ℕ) (first second : Protocol) → HasInterface x.sig x.interface first → HasInterface x.sig x.interface second → IsRewritten x rule place first second → AreEqualAt x.sig x.interface first second
+  rewritten_is_equal tables rule place first second typed typed' h =
+      instance_is_equal x.sig (scope_in x) (port_names x.interface.outputs) first second place tables rule h.left h.right typed typed' h.there h.whole h.sides
 
-  -- the neighbours that a step gives, and those after them
-  step_means : TablesAreWhole x.sig → (before : Protocol) (step : Step) (after : Protocol) (later : List Link) → HasInterface x.sig x.interface before → IsStep x before step after → EachTwo (MeansMark x) after later →
-      EachTwo (MeansMark x) before (links_of_step step after ++ later)
-  step_means tables before (plain place rule) after later typed h means = (step_is_equal tables before (plain place rule) after typed h, means)
-  step_means tables before (rev place rule term) after later typed h means = (step_is_equal tables before (rev place rule term) after typed h, means)
-  step_means tables before (invoke place name direction pairs) after later typed h means = absurd h.change
+  rule_means : (direction : Direction) (word place : List ℕ) (before after : Protocol) → HasInterface x.sig x.interface before → HasInterface x.sig x.interface after → AreEqualAt x.sig x.interface before after →
+      LinksMean before (record { mark = by_rule direction word place; term = after } ∷ [])
+  rule_means direction word place before after typed typed' same =
+      means_one x.sig x.interface (assumed_in x) before _ typed typed' same (λ are_true. same)
 
-  -- where they end
-  pub last_of-step : (before : Protocol) (step : Step) (after : Protocol) (later : List Link) → IsStep x before step after → last_of before (links_of_step step after ++ later) ≡ last_of after later
-  last_of-step before (plain place rule) after later h = refl
-  last_of-step before (rev place rule term) after later h = refl
-  last_of-step before (invoke place name direction pairs) after later h = absurd h.change
+  use_means : LemmasMean x → (before : Protocol) (place name : List ℕ) (direction : Direction) (pairs : Pairs) (after : Protocol) → HasInterface x.sig x.interface before → IsUseStep x before place name direction pairs after →
+      LinksMean before (used_there x before place name direction pairs).links
+  use_means lemmas before place name direction pairs after typed h =
+      let found = used_is x before place name direction pairs after h in
+      let chain = used direction (record { name = name; place = place; around = found.0; pairs = completed h.lemma.interface pairs }) h.lemma.chain in
+      let means = used_means x.sig (assumed_in x) x.interface before typed place name h.part found.0 h.at_place found.1 h.lemma (lemmas name h.lemma h.there) direction pairs h.usable in
+      subst (λ (c : Chain). LinksMean before c.links) (sym found.2) (subst (λ p. LinksMean p chain.links) means.1 means.0)
+
+  pub step_means : TablesAreWhole x.sig → LemmasMean x → (before : Protocol) (step : Step) (after : Protocol) → HasInterface x.sig x.interface before → IsStep x before step after → LinksMean before (links_of_step x before step after)
+  step_means tables lemmas before (plain place rule) after typed h =
+      rule_means lr (rule_word rule) place before after typed h.typed (rewritten_is_equal tables _ place before after typed h.typed (rewritten x before place rule after h))
+  step_means tables lemmas before (rev place rule term) after typed h =
+      rule_means rl (rule_word rule) place before after typed h.typed
+      (equal_sym x.sig (scope_in x) (port_names x.interface.outputs) after before (rewritten_is_equal tables _ place after before h.typed typed (rewritten_back x before place rule term after h)))
+  step_means tables lemmas before (invoke place name direction pairs) after typed h = use_means lemmas before place name direction pairs after typed h
 
   -- ---- scripts
 
-  script_means : TablesAreWhole x.sig → (so_far : ℕ) (before : Protocol) (steps : List Step) (links : List Link) → HasInterface x.sig x.interface before → IsScript x so_far before steps links → EachTwo (MeansMark x) before links
-  script_means tables so_far before [] links typed h = subst (EachTwo (MeansMark x) before) (sym h) tt
-  script_means tables so_far before (step ∷ steps) links typed h =
-      subst (EachTwo (MeansMark x) before) (sym h.all)
-      (step_means tables before step h.after h.later typed h.stands (script_means tables (count_after so_far step h.after) h.after steps h.later h.stands.typed h.rest))
+  after_is_typed : (before : Protocol) (step : Step) (after : Protocol) → IsStep x before step after → HasInterface x.sig x.interface after
+  after_is_typed before (plain place rule) after h = h.typed
+  after_is_typed before (rev place rule term) after h = h.typed
+  after_is_typed before (invoke place name direction pairs) after h = h.typed
 
-  mark_is_turned : (mark : Mark) (p q : Protocol) → MeansMark x mark p q → MeansMark x (turned_mark mark) q p
-  mark_is_turned (by_rule direction word place) p q h = turned_round p q h
-
-  mark_is_equal : (mark : Mark) (p q : Protocol) → MeansMark x mark p q → AreEqual x p q
-  mark_is_equal (by_rule direction word place) p q h = h
-
-  ends_are_equal : (first : Protocol) (links : List Link) → HasInterface x.sig x.interface first → EachTwo (MeansMark x) first links → AreEqual x first (last_of first links)
-  ends_are_equal first [] typed h = equal_refl x.sig (scope_in x) (port_names x.interface.outputs) first typed
-  ends_are_equal first (link ∷ links) typed h =
-      let next = mark_is_equal link.mark first link.term h.0 in
-      equal_trans x.sig (scope_in x) (port_names x.interface.outputs) first link.term (last_of link.term links) next (ends_are_equal link.term links next.right h.1)
-
-  -- ---- types
-
-  -- both neighbours are typed, whatever the mark
-  BothTyped : Mark → Protocol → Protocol → Type 0
-  BothTyped mark p q = HasInterface x.sig x.interface p × HasInterface x.sig x.interface q
-
-  script_is_typed : (so_far : ℕ) (before : Protocol) (steps : List Step) (links : List Link) → HasInterface x.sig x.interface before → IsScript x so_far before steps links → EachTwo BothTyped before links
-  unfolding BothTyped
-  script_is_typed so_far before [] links typed h = subst (EachTwo BothTyped before) (sym h) tt
-  script_is_typed so_far before (step ∷ steps) links typed h =
-      subst (EachTwo BothTyped before) (sym h.all)
-      (step_is_typed before step h.after h.later typed h.stands (script_is_typed (count_after so_far step h.after) h.after steps h.later h.stands.typed h.rest))
-    where
-      step_is_typed : (before : Protocol) (step : Step) (after : Protocol) (later : List Link) → HasInterface x.sig x.interface before → IsStep x before step after → EachTwo BothTyped after later → EachTwo BothTyped before (links_of_step step after ++ later)
-      step_is_typed before (plain place rule) after later typed h rest = ((typed, h.typed), rest)
-      step_is_typed before (rev place rule term) after later typed h rest = ((typed, h.typed), rest)
-      step_is_typed before (invoke place name direction pairs) after later typed h rest = absurd h.change
-
-  both_turned : (mark : Mark) (p q : Protocol) → BothTyped mark p q → BothTyped (turned_mark mark) q p
-  unfolding BothTyped
-  both_turned mark p q h = (h.1, h.0)
-
-  terms_are_typed : (first : Protocol) (links : List Link) → EachTwo BothTyped first links → AllByRecursion (HasInterface x.sig x.interface) (map (λ (link : Link). link.term) links)
-  unfolding BothTyped
-  terms_are_typed first [] h = tt
-  terms_are_typed first (link ∷ links) h = (h.0.1, terms_are_typed link.term links h.1)
+  script_means : TablesAreWhole x.sig → LemmasMean x → (so_far : ℕ) (before : Protocol) (steps : List Step) (links : List Link) → HasInterface x.sig x.interface before → IsScript x so_far before steps links → LinksMean before links
+  script_means tables lemmas so_far before [] links typed h =
+      subst (LinksMean before) (sym h) (means_alone x.sig x.interface (assumed_in x) before typed)
+  script_means tables lemmas so_far before (step ∷ steps) links typed h =
+      let first = step_means tables lemmas before step h.after typed h.stands in
+      let rest = script_means tables lemmas (count_after x so_far before step h.after) h.after steps h.later (after_is_typed before step h.after h.stands) h.rest in
+      subst (LinksMean before) (sym h.all)
+      (means_joined x.sig x.interface (assumed_in x) before (links_of_step x before step h.after) h.later first
+      (subst (λ p. LinksMean p h.later) (sym (step_leads x before step h.after h.stands)) rest))
 
   -- ---- chains
 
@@ -104,26 +79,12 @@ module _ (x : Setting) where
         ap (λ p. last_of p chain.links) h.first ∙ ap (last_of t.left) h.links ∙ last_of-append t.left h.lefts (turned_links t.right h.rights) ∙
         ap (λ p. last_of p (turned_links t.right h.rights)) h.meet ∙ last_of-turned t.right h.rights
 
-    -- what holds of the neighbours on both sides holds of all, where it is turned with the mark
-    each_in_chain : (Marks : Mark → Protocol → Protocol → Type 0) → ((mark : Mark) (p q : Protocol) → Marks mark p q → Marks (turned_mark mark) q p) →
-        EachTwo Marks t.left h.lefts → EachTwo Marks t.right h.rights → EachTwo Marks chain.first chain.links
-    each_in_chain Marks turns from_left from_right =
-        let back : EachTwo Marks (last_of t.left h.lefts) (turned_links t.right h.rights) = subst (λ p. EachTwo Marks p (turned_links t.right h.rights)) (sym h.meet) (each_turned Marks turns t.right h.rights from_right) in
-        subst (λ p. EachTwo Marks p chain.links) (sym h.first)
-        (subst (EachTwo Marks t.left) (sym h.links) (each_appended Marks t.left h.lefts (turned_links t.right h.rights) from_left back))
-
-    pub chains_mean : TablesAreWhole x.sig → HasInterface x.sig x.interface t.left → HasInterface x.sig x.interface t.right → EachTwo (MeansMark x) chain.first chain.links
-    chains_mean tables left right =
-        each_in_chain (MeansMark x) mark_is_turned (script_means tables so_far t.left t.lefts h.lefts left h.left_script)
-        (script_means tables (so_far + neighbour_count h.lefts) t.right t.rights h.rights right h.right_script)
-
-    pub sides_are_equal : TablesAreWhole x.sig → HasInterface x.sig x.interface t.left → HasInterface x.sig x.interface t.right → AreEqual x t.left t.right
-    sides_are_equal tables left right =
-        subst (AreEqual x t.left) (ap (λ p. last_of p chain.links) (sym h.first) ∙ chain_ends)
-        (ends_are_equal t.left chain.links left (subst (λ p. EachTwo (MeansMark x) p chain.links) h.first (chains_mean tables left right)))
-
-    pub terms_have_interface : HasInterface x.sig x.interface t.left → HasInterface x.sig x.interface t.right → AllByRecursion (HasInterface x.sig x.interface) (terms_of chain)
-    terms_have_interface left right =
-        let each = each_in_chain BothTyped both_turned (script_is_typed so_far t.left t.lefts h.lefts left h.left_script)
-        (script_is_typed (so_far + neighbour_count h.lefts) t.right t.rights h.rights right h.right_script) in
-        (subst (HasInterface x.sig x.interface) (sym h.first) left, terms_are_typed chain.first chain.links each)
+    pub chain_means : TablesAreWhole x.sig → LemmasMean x → HasInterface x.sig x.interface t.left → HasInterface x.sig x.interface t.right → ChainMeans x.sig x.interface (assumed_in x) chain
+    chain_means tables lemmas left right =
+        let lefts = script_means tables lemmas so_far t.left t.lefts h.lefts left h.left_script in
+        let rights = script_means tables lemmas (so_far + neighbour_count h.lefts) t.right t.rights h.rights right h.right_script in
+        let back : LinksMean (last_of t.left h.lefts) (turned_links t.right h.rights) =
+        subst (λ p. LinksMean p (turned_links t.right h.rights)) (sym h.meet) (means_turned x.sig x.interface (assumed_in x) (record { first = t.right; links = h.rights }) rights) in
+        let joined = means_joined x.sig x.interface (assumed_in x) t.left h.lefts (turned_links t.right h.rights) lefts back in
+        let parts : chain ≡ record { first = t.left; links = h.lefts ++ turned_links t.right h.rights } = ap₂ (λ (f : Protocol) (ls : List Link). let c : Chain = record { first = f; links = ls } in c) h.first h.links in
+        subst (ChainMeans x.sig x.interface (assumed_in x)) (sym parts) joined

@@ -7,7 +7,7 @@ use Rattle.ipdl_base.specs.declared.limit.Limit.TheVariants.{Chain as ChainLimit
 use Rattle.ipdl_chain.specs.Chains.{Link, Chain, last_of, neighbour_count, turned_links}
 use Rattle.ipdl_script.proofs.DifferenceLaws.{differing_place-none, differing_place-same}
 use Rattle.ipdl_script.proofs.StepLaws.{step_stands, stands_step}
-use Rattle.ipdl_script.proofs.StepTests.{none_of_map, limit_test-kept, limit_is_kept}
+use Rattle.ipdl_script.proofs.StepTests.{none_of_map, none_of_either, limit_test-kept, limit_is_kept}
 use Rattle.ipdl_script.specs.EndPlaces.{differing_place}
 use Rattle.ipdl_script.specs.Scripts.{Theorem, links_of_step, count_after, IsScript, IsChain, Side, left_side, right_side, wrong_step, wrong_ends, chain_test, wrong_in_script, links_of_script, left_links, right_links, left_end, right_end, first_wrong, chain_of_scripts}
 use Rattle.ipdl_script.specs.Steps.{Setting, step_refusal, after_step}
@@ -30,39 +30,35 @@ either_none : {X : Type 0} (a b : Option X) → a ≡ None → b ≡ None → op
 either_none None b h k = k
 either_none (Some x) b h k = cc
 
-pub none_of_either : {X : Type 0} (a b : Option X) → option_or a b ≡ None → (a ≡ None) × (b ≡ None)
-none_of_either None b h = (refl, h)
-none_of_either (Some x) b h = cc
-
 -- ---- scripts
 
 module _ (x : Setting) where
   -- what the tests of a script say, from the whole term on to which its first step leads
   abbrev Goes : ℕ → Side → ℕ → Protocol → Step → List Step → List Link → Protocol → Type 0
   Goes so_far side number before step steps links after =
-      (option_or (option_map (wrong_step side number) (option_or (step_refusal x before step) (chain_test so_far step after))) (wrong_in_script x (count_after so_far step after) side (suc number) after steps) ≡ None)
-      × (links_of_step step after ++ links_of_script x after steps ≡ links)
+      (option_or (option_map (wrong_step side number) (option_or (step_refusal x before step) (chain_test x so_far before step after))) (wrong_in_script x (count_after x so_far before step after) side (suc number) after steps) ≡ None)
+      × (links_of_step x before step after ++ links_of_script x after steps ≡ links)
 
   pub script_stands : (so_far : ℕ) (side : Side) (number : ℕ) (before : Protocol) (steps : List Step) (links : List Link) → IsScript x so_far before steps links →
       (wrong_in_script x so_far side number before steps ≡ None) × (links_of_script x before steps ≡ links)
   script_stands so_far side number before [] links h = (refl, sym h)
   script_stands so_far side number before (step ∷ steps) links h =
       let after = h.after in
-      let many = count_after so_far step after in
+      let many = count_after x so_far before step after in
       let stands = step_stands x before step after h.stands in
       let rest = script_stands many side (suc number) after steps h.later h.rest in
       subst (Goes so_far side number before step steps links) (sym stands.1) (
-        all_none (wrong_step side number) (step_refusal x before step) (chain_test so_far step after) (wrong_in_script x many side (suc number) after steps)
+        all_none (wrong_step side number) (step_refusal x before step) (chain_test x so_far before step after) (wrong_in_script x many side (suc number) after steps)
             stands.0 (limit_test-kept ChainLimit (limit_number ChainLimit) many h.short) rest.0,
-        ap (λ ls. links_of_step step after ++ ls) rest.1 ∙ sym h.all,
+        ap (λ ls. links_of_step x before step after ++ ls) rest.1 ∙ sym h.all,
       )
 
   pub stands_script : (so_far : ℕ) (side : Side) (number : ℕ) (before : Protocol) (steps : List Step) → wrong_in_script x so_far side number before steps ≡ None → IsScript x so_far before steps (links_of_script x before steps)
   stands_script so_far side number before [] h = refl
   stands_script so_far side number before (step ∷ steps) h =
       let after = after_step x before step in
-      let many = count_after so_far step after in
-      let parts = none_of_all (wrong_step side number) (step_refusal x before step) (chain_test so_far step after) (wrong_in_script x many side (suc number) after steps) h in
+      let many = count_after x so_far before step after in
+      let parts = none_of_all (wrong_step side number) (step_refusal x before step) (chain_test x so_far before step after) (wrong_in_script x many side (suc number) after steps) h in
       record {
         after = after;
         later = links_of_script x after steps;

@@ -2,28 +2,24 @@
 use Rattle.std.proofs.Common.{◌≡◌, ℕ, ◌≤◌, Bool, true, ◌&&◌, List, [], ◌∷◌, Option, Some, None, refl, sym, ap, ◌∙◌, subst}
 use Rattle.std.proofs.lemmas.Bool.{and_parts, and_from}
 use Rattle.std.specs.Prelude.{◌↔◌, option_map}
-use Rattle.ipdl_base.specs.Limits.{limit_number}
-use Rattle.ipdl_base.specs.declared.limit.Limit.TheVariants.{Nodes, Channels, Depth}
+use Rattle.ipdl_base.specs.declared.limit.Limit.TheVariants.{Nodes}
 use Rattle.ipdl_laws.proofs.Replacing.{kept}
 use Rattle.ipdl_script.proofs.InstanceLaws.{instance_answers, instance_is_true, reversible_is_true, answer_is_instance, instance_kinds, keeps_type-settled, keeping_is_true, keeping_is_equal, one_kind, protocol_is}
-use Rattle.ipdl_script.proofs.StepTests.{none_of_map, first_refusal-passed, all_pass, refused_unless-true, true_unless, limit_test-kept, limit_is_kept, no_failure, all_bound, answer_of_kind, kind_of_answer}
+use Rattle.ipdl_script.proofs.StepTests.{none_of_map, first_refusal-passed, all_pass, refused_unless-true, true_unless, limit_test-kept, limit_is_kept, type_passes, passed_type, all_bound, extent_is_kept, extent_passes, answer_of_kind, kind_of_answer}
+use Rattle.ipdl_script.proofs.UseSteps.{use_passes, passed_use}
 use Rattle.ipdl_script.specs.Instances.{IsInstanceAt, Answer, other_shape, failing, gives, answer_at, truth_at}
 use Rattle.ipdl_script.specs.Settling.{unsettled_in_step, settled_rule}
-use Rattle.ipdl_script.specs.Steps.{Setting, scope_in, place_of, depth_at, around_step, settled_there, is_reversible, IsChange, result_side, KeepsLimits, IsStep, is_of_kind, place_test, match_test, side_test, answer_to, changed, Refusal, AllPass, ill_typed, nodes_test, channels_test, depth_test, type_test, untrue, truth_test, tests_of, part_of, answered_there, step_tests, first_refusal, step_refusal, after_step}
+use Rattle.ipdl_script.specs.Steps.{Setting, scope_in, place_of, depth_at, around_step, settled_there, is_reversible, IsChange, result_side, KeepsLimits, IsStep, is_of_kind, place_test, match_test, side_test, answer_to, changed, Refusal, AllPass, nodes_test, channels_test, depth_test, type_test, untrue, truth_test, tests_of, part_of, answered_there, rule_tests, use_tests, first_refusal, step_refusal, after_step}
 use Rattle.ipdl_script.specs.TestGroups.{keeps_type, part_tests, part_refusal}
 use Rattle.ipdl_term.specs.Places.{protocol_or, AreOfOneKind, term_at, term_with}
 use Rattle.ipdl_term.specs.Rules.{Rule, row_of}
 use Rattle.ipdl_term.specs.Same.{same_term, same_term-itself, same_term-Decides}
-use Rattle.ipdl_term.specs.Sizes.{most_nodes, term_nodes, protocol_nodes, channel_count, printed_depth, greatest_printed_depth}
+use Rattle.ipdl_term.specs.Sizes.{most_nodes, term_nodes}
 use Rattle.ipdl_term.specs.Steps.{Step, plain, rev, invoke}
 use Rattle.ipdl_term.specs.Surroundings.{Surroundings, around, outermost}
 use Rattle.ipdl_term.specs.Terms.{Protocol, Term, protocol_term}
 use Rattle.ipdl_term.specs.Typing.{HasInterface, port_names}
 use Rattle.ipdl_term.specs.Variables.{settled_term}
-use Rattle.ipdl_typing.proofs.ProtocolTyping.{HasInterface-clean}
-use Rattle.ipdl_typing.proofs.Typed.{interface-HasInterface}
-use Rattle.ipdl_typing.specs.Checks.{first_failure}
-use Rattle.ipdl_typing.specs.Interfaces.{interface_failures}
 
 -- ---- a settled step, where this is around its place
 
@@ -33,26 +29,12 @@ module _ (x : Setting) (before : Protocol) (s : Surroundings) where
   WholePasses p truth = AllPass (nodes_test p ∷ channels_test p ∷ depth_test p ∷ type_test x p ∷ truth ∷ [])
 
   whole_passes : (p after : Protocol) (truth : Option Refusal) → p ≡ after → KeepsLimits after → HasInterface x.sig x.interface after → truth ≡ None → WholePasses p truth
-  whole_passes p after truth e within typed told = subst (λ q. WholePasses q truth) (sym e) (
-    limit_test-kept Nodes most_nodes (protocol_nodes after) within.nodes,
-    (
-      limit_test-kept Channels (limit_number Channels) (channel_count after) within.channels,
-      (
-        limit_test-kept Depth greatest_printed_depth (printed_depth after) within.depth,
-        (ap (λ fs. option_map ill_typed (first_failure fs)) (interface-HasInterface x.sig x.interface after typed), (told, tt)),
-      ),
-    ),
-  )
+  whole_passes p after truth e within typed told =
+      let fits = extent_passes after within in
+      subst (λ q. WholePasses q truth) (sym e) (fits.0, (fits.1, (fits.2, (type_passes x after typed, (told, tt)))))
 
   whole_fits : (p : Protocol) (truth : Option Refusal) → WholePasses p truth → KeepsLimits p × HasInterface x.sig x.interface p
-  whole_fits p truth h = (
-    record {
-      nodes = limit_is_kept Nodes most_nodes (protocol_nodes p) h.0;
-      channels = limit_is_kept Channels (limit_number Channels) (channel_count p) h.1.0;
-      depth = limit_is_kept Depth greatest_printed_depth (printed_depth p) h.1.1.0;
-    },
-    HasInterface-clean x.sig x.interface p (no_failure (interface_failures x.sig x.interface p) h.1.1.1.0),
-  )
+  whole_fits p truth h = (extent_is_kept p h.0 h.1.0 h.1.1.0, passed_type x p h.1.1.1.0)
 
   -- no test refuses, and this is the new whole term
   abbrev Passes : Step → Option ℕ → Option Term → Answer → Protocol → Type 0
@@ -189,27 +171,19 @@ module _ (x : Setting) (before : Protocol) where
       subst (λ u. Passes x before s there u (part_of before step) (answer_to x s there (part_of before step)) after) (sym h.bound)
       (subst (λ part. Passes x before s there None part (answer_to x s there part) after) (sym h.place)
       (rev_passes x before s place settled written h.old after h.change.1 (subst (λ t. IsInstanceAt x.sig s settled t h.old) h.change.0 h.change.2) h.small (subst (λ t. term_with (protocol_term before) place t ≡ protocol_term after) h.change.0 h.whole) h.within h.typed))
-  step_stands (invoke place name direction pairs) after h = absurd h.change
-
-  found_step : (step : Step) → step_refusal x before step ≡ None → Found x before (around_step x before step) (settled_there x before step) (unsettled_in_step (depth_at x before step) step) (part_of before step) (after_step x before step)
-  found_step (plain place rule) h =
-      let step = plain place rule in
-      found x before (around_step x before step) (settled_there x before step) (unsettled_in_step (depth_at x before step) step) (part_of before step) (answered_there x before step) refl refl (all_pass (step_tests x before step) h)
-  found_step (rev place rule term) h =
-      let step = rev place rule term in
-      found x before (around_step x before step) (settled_there x before step) (unsettled_in_step (depth_at x before step) step) (part_of before step) (answered_there x before step) refl refl (all_pass (step_tests x before step) h)
-  found_step (invoke place name direction pairs) h =
-      let step = invoke place name direction pairs in
-      found x before (around_step x before step) (settled_there x before step) (unsettled_in_step (depth_at x before step) step) (part_of before step) (answered_there x before step) refl refl (all_pass (step_tests x before step) h)
+  step_stands (invoke place name direction pairs) after h =
+      (first_refusal-passed (use_tests x before place name direction pairs) (use_passes x before place name direction pairs after h), h.leads)
 
   pub stands_step : (step : Step) → step_refusal x before step ≡ None → IsStep x before step (after_step x before step)
   stands_step (plain place rule) h =
-      let f = found_step (plain place rule) h in
+      let step = plain place rule in
+      let f = found x before (around_step x before step) (settled_there x before step) (unsettled_in_step (depth_at x before step) step) (part_of before step) (answered_there x before step) refl refl (all_pass (rule_tests x before step) h) in
       record { old = f.old; new = f.new; place = f.place; bound = f.bound; change = f.change; small = f.small; whole = f.whole; within = f.within; typed = f.typed }
   stands_step (rev place rule term) h =
-      let f = found_step (rev place rule term) h in
+      let step = rev place rule term in
+      let f = found x before (around_step x before step) (settled_there x before step) (unsettled_in_step (depth_at x before step) step) (part_of before step) (answered_there x before step) refl refl (all_pass (rule_tests x before step) h) in
       record { old = f.old; new = f.new; place = f.place; bound = f.bound; change = f.change; small = f.small; whole = f.whole; within = f.within; typed = f.typed }
-  stands_step (invoke place name direction pairs) h = absurd (found_step (invoke place name direction pairs) h).change
+  stands_step (invoke place name direction pairs) h = passed_use x before place name direction pairs (all_pass (use_tests x before place name direction pairs) h)
 
 -- exactly where no test refuses
 pub step_exactly : (x : Setting) (before : Protocol) (step : Step) (after : Protocol) → IsStep x before step after ↔ ((step_refusal x before step ≡ None) × (after_step x before step ≡ after))

@@ -1,17 +1,29 @@
 -- The tests of a step: when one passes, and which of several is told.
 use Rattle.std.proofs.Common.{◌≡◌, ℕ, ◌≤◌, nat_le, Bool, true, false, List, [], ◌∷◌, ◌++◌, Option, Some, None, refl, ap}
 use Rattle.std.proofs.lemmas.Bool.{leb-true, le-leb}
+use Rattle.std.specs.List.{AllByRecursion}
 use Rattle.std.specs.Option.{option_or}
 use Rattle.std.specs.Prelude.{option_map, if◌then◌else◌}
+use Rattle.ipdl_base.specs.Limits.{limit_number}
 use Rattle.ipdl_base.specs.declared.limit.Limit.{Limit}
+use Rattle.ipdl_base.specs.declared.limit.Limit.TheVariants.{Nodes, Channels, Depth}
 use Rattle.ipdl_script.specs.Instances.{Answer, other_shape, gives}
-use Rattle.ipdl_script.specs.Steps.{Refusal, ill_typed, AllPass, refused_unless, limit_test, variable_test, first_refusal}
-use Rattle.ipdl_term.specs.Terms.{Term}
+use Rattle.ipdl_script.specs.Steps.{Setting, KeepsLimits, Refusal, ill_typed, AllPass, refused_unless, limit_test, variable_test, nodes_test, channels_test, depth_test, type_test, extent_tests, first_refusal}
+use Rattle.ipdl_term.specs.Sizes.{most_nodes, protocol_nodes, channel_count, printed_depth, greatest_printed_depth}
+use Rattle.ipdl_term.specs.Terms.{Protocol, Term}
+use Rattle.ipdl_term.specs.Typing.{HasInterface}
+use Rattle.ipdl_typing.proofs.ProtocolTyping.{HasInterface-clean}
+use Rattle.ipdl_typing.proofs.Typed.{interface-HasInterface}
 use Rattle.ipdl_typing.specs.Checks.{Failure, first_failure}
+use Rattle.ipdl_typing.specs.Interfaces.{interface_failures}
 
 pub none_of_map : {X Y : Type 0} (f : X → Y) (a : Option X) → option_map f a ≡ None → a ≡ None
 none_of_map f None h = refl
 none_of_map f (Some x) h = cc
+
+pub none_of_either : {X : Type 0} (a b : Option X) → option_or a b ≡ None → (a ≡ None) × (b ≡ None)
+none_of_either None b h = (refl, h)
+none_of_either (Some x) b h = cc
 
 pub option_or-none : {X : Type 0} (a : Option X) → option_or a None ≡ a
 option_or-none None = refl
@@ -28,6 +40,15 @@ pub all_pass : (tests : List (Option Refusal)) → first_refusal tests ≡ None 
 all_pass [] h = tt
 all_pass (None ∷ tests) h = (refl, all_pass tests h)
 all_pass (Some refusal ∷ tests) h = cc
+
+-- those of two lists
+pub all_of_both : (tests later : List (Option Refusal)) → AllPass tests → AllPass later → AllPass (tests ++ later)
+all_of_both [] later h k = k
+all_of_both (test ∷ tests) later h k = (h.0, all_of_both tests later h.1 k)
+
+pub both_pass : (tests later : List (Option Refusal)) → AllPass (tests ++ later) → AllPass tests × AllPass later
+both_pass [] later h = (tt, h)
+both_pass (test ∷ tests) later h = let rest = both_pass tests later h.1 in ((h.0, rest.0), rest.1)
 
 -- the one that is told is the first
 pub told_first : (tests : List (Option Refusal)) (refusal : Refusal) → first_refusal tests ≡ Some refusal →
@@ -58,9 +79,39 @@ pub no_failure : (failures : List Failure) → option_map ill_typed (first_failu
 no_failure [] h = refl
 no_failure (failure ∷ failures) h = cc
 
+pub type_passes : (x : Setting) (p : Protocol) → HasInterface x.sig x.interface p → type_test x p ≡ None
+type_passes x p typed = ap (λ fs. option_map ill_typed (first_failure fs)) (interface-HasInterface x.sig x.interface p typed)
+
+pub passed_type : (x : Setting) (p : Protocol) → type_test x p ≡ None → HasInterface x.sig x.interface p
+passed_type x p h = HasInterface-clean x.sig x.interface p (no_failure (interface_failures x.sig x.interface p) h)
+
 pub all_bound : (unsettled : Option ℕ) → variable_test unsettled ≡ None → unsettled ≡ None
 all_bound None h = refl
 all_bound (Some number) h = cc
+
+-- ---- the limits of whole terms
+
+pub extent_is_kept : (p : Protocol) → nodes_test p ≡ None → channels_test p ≡ None → depth_test p ≡ None → KeepsLimits p
+extent_is_kept p nodes channels depth = record {
+  nodes = limit_is_kept Nodes most_nodes (protocol_nodes p) nodes;
+  channels = limit_is_kept Channels (limit_number Channels) (channel_count p) channels;
+  depth = limit_is_kept Depth greatest_printed_depth (printed_depth p) depth;
+}
+
+pub extent_passes : (p : Protocol) → KeepsLimits p → (nodes_test p ≡ None) × (channels_test p ≡ None) × (depth_test p ≡ None)
+extent_passes p h = (
+  limit_test-kept Nodes most_nodes (protocol_nodes p) h.nodes,
+  limit_test-kept Channels (limit_number Channels) (channel_count p) h.channels,
+  limit_test-kept Depth greatest_printed_depth (printed_depth p) h.depth,
+)
+
+pub extents_pass : (terms : List Protocol) → AllByRecursion KeepsLimits terms → AllPass (extent_tests terms)
+extents_pass [] h = tt
+extents_pass (term ∷ terms) h = let fits = extent_passes term h.0 in (fits.0, (fits.1, (fits.2, extents_pass terms h.1)))
+
+pub extents_are_kept : (terms : List Protocol) → AllPass (extent_tests terms) → AllByRecursion KeepsLimits terms
+extents_are_kept [] h = tt
+extents_are_kept (term ∷ terms) h = (extent_is_kept term h.0 h.1.0 h.1.1.0, extents_are_kept terms h.1.1.1)
 
 -- ---- what a rule answers to a term, the part being of its kind
 

@@ -9,7 +9,7 @@ use Rattle.ipdl_rules_r.specs.Expressions.{question_at}
 use Rattle.ipdl_rules_r.specs.TruthTests.{truth_refusal}
 use Rattle.ipdl_script.proofs.InstanceLaws.{protocol_is}
 use Rattle.ipdl_script.proofs.PartTests.{table_refusal, plain_refusal, plain_changed}
-use Rattle.ipdl_script.proofs.ScriptLaws.{none_of_either}
+use Rattle.ipdl_script.proofs.StepTests.{none_of_either}
 use Rattle.ipdl_script.proofs.StepTests.{true_unless}
 use Rattle.ipdl_script.specs.Fitting.{WholeFits}
 use Rattle.ipdl_script.specs.Instances.{failing, gives, answer_at}

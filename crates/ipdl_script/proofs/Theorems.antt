@@ -1,37 +1,33 @@
 -- What is wrong first with a theorem, from what its two trails tell; and how many neighbours they have together.
-use Rattle.std.proofs.Common.{◌≡◌, ℕ, suc, ◌+◌, ◌≤◌, List, [], ◌∷◌, ◌++◌, length, Result, Ok, Err, Option, None, refl, sym, ap, ap₂, ◌∙◌, subst, arith}
+use Rattle.std.proofs.Common.{◌≡◌, ℕ, suc, ◌+◌, ◌≤◌, List, ◌++◌, length, map, Result, Ok, Err, Option, None, sym, ap, ap₂, ◌∙◌, subst, arith}
 use Rattle.std.proofs.lemmas.List.{length-append}
+use Rattle.std.proofs.lemmas.List.Elements.{All-same}
 use Rattle.std.specs.Option.{option_or}
 use Rattle.std.specs.Prelude.{IfOk, OnOk}
-use Rattle.ipdl_chain.specs.Chains.{Link, last_of, neighbour_count, turned_mark, turned_links}
-use Rattle.ipdl_chain.specs.Views.{others_of, links_of}
-use Rattle.ipdl_chain.specs.declared.chain.Mark.{Mark}
+use Rattle.ipdl_chain.specs.Chains.{Link, last_of, neighbour_count, turned_links}
+use Rattle.ipdl_chain.proofs.Views.{seen_whole}
+use Rattle.ipdl_chain.specs.Views.{HasOneTermMore, IsMarkWithin, others_of}
+use Rattle.ipdl_chain.specs.declared.chain.Chain.{Chain}
 use Rattle.ipdl_script.proofs.Refusals.{wrong_later, none_wrong}
+use Rattle.ipdl_script.proofs.TrailLists.{length-links_of, length-turned_links}
 use Rattle.ipdl_script.specs.Scripts.{Theorem, Wrong, left_side, wrong_in_script, left_links, first_wrong}
 use Rattle.ipdl_script.specs.Steps.{Setting}
 use Rattle.ipdl_script.specs.TestGroups.{AnswersScripts, wrong_on_right}
-use Rattle.ipdl_script.specs.Trails.{trail_first, trail_links, trail_end}
+use Rattle.ipdl_script.specs.Trails.{IsTrailWithin, trail_first, trail_links, trail_end}
 use Rattle.ipdl_script.specs.declared.fault.ScriptFault.{ScriptFault}
 use Rattle.ipdl_script.specs.declared.trail.Trail.{Trail}
+use Rattle.ipdl_term.specs.Channels.{SameSet}
 use Rattle.ipdl_term.specs.Terms.{Protocol}
-use Rattle.ipdl_term.specs.declared.protocol.Proto.{Proto}
+use Rattle.ipdl_term.specs.Views.{protocol_of}
+use Rattle.ipdl_term.specs.Within.{IsProtocolWithin}
+use Rattle.ipdl_uses.specs.Lemmas.{hidden_in_terms}
+use Rattle.ipdl_uses.specs.Views.{IsKept}
 
 -- ---- how many
-
-length-links_of : (marks : List Mark) (terms : List Proto) → length (links_of marks terms) ≡ length marks
-length-links_of [] terms = refl
-length-links_of (m ∷ ms) terms = ap suc (length-links_of ms (others_of terms))
 
 -- a trail has as many links as marks
 pub length-trail_links : (trail : Trail) → length (trail_links trail) ≡ length trail.marks
 length-trail_links trail = length-links_of trail.marks (others_of trail.terms)
-
-length-turned_links : (term : Protocol) (links : List Link) → length (turned_links term links) ≡ length links
-length-turned_links term [] = refl
-length-turned_links term (link ∷ links) =
-    let inner = length-turned_links link.term links in
-    let all = length-append (turned_links link.term links) (record { mark = turned_mark link.mark; term = term } ∷ []) in
-    omega (arith, inner, all)
 
 -- both scripts together keep the limit that the right one kept after the left one
 both_short : (n most : ℕ) (lefts rights whole : List Link) (term : Protocol) → whole ≡ lefts ++ turned_links term rights → n + length lefts + length rights ≤ most → n + neighbour_count whole ≤ most
@@ -62,3 +58,18 @@ module _ (x : Setting) (n : ℕ) (t : Theorem) (lefts : Trail) (links : trail_li
       AnswersScripts r (wrong_on_right x (n + length lefts.marks) (trail_end lefts) t.right t.rights) → AnswersScripts r (first_wrong x n t)
   answers_first_wrong r first h =
       answers_later r _ _ passed (subst (AnswersScripts r) (ap₂ (λ m p. wrong_on_right x m p t.right t.rights) so_far (ap₂ last_of first links)) h)
+
+-- ---- the chain that is kept
+
+pub trail_is_kept : (symbols : ℕ) (trail : Trail) (chain : Chain) → chain.terms ≡ trail.terms → chain.marks ≡ trail.marks → IsTrailWithin symbols trail →
+    SameSet chain.hidden (hidden_in_terms (map protocol_of chain.terms)) → IsKept symbols chain
+trail_is_kept symbols trail chain ts ms within hidden =
+    let complete : HasOneTermMore chain = ap length ts ∙ within.paired ∙ sym (ap (λ marks. suc (length marks)) ms) in
+    record {
+      complete = complete;
+      within = record {
+        terms = All-same (λ term. IsProtocolWithin symbols (protocol_of term)) chain.terms trail.terms ts within.terms;
+        marks = All-same (λ mark. IsMarkWithin symbols mark) chain.marks trail.marks ms within.marks;
+      };
+      hidden = subst (λ terms. SameSet chain.hidden (hidden_in_terms terms)) (sym (seen_whole chain complete).0) hidden;
+    }

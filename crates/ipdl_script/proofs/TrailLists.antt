@@ -1,5 +1,5 @@
--- Trails as lists: what a further term adds, what is at the end, and the way back.
-use Rattle.std.proofs.Common.{◌≡◌, ℕ, zero, suc, ◌+◌, ◌<◌, List, [], ◌∷◌, ◌++◌, length, get_or, take, refl, sym, ap, ap₂, ◌∙◌, append_assoc, arith}
+-- Trails as lists: what further terms add, what is at the end, and the way back.
+use Rattle.std.proofs.Common.{◌≡◌, ℕ, zero, suc, ◌+◌, List, [], ◌∷◌, ◌++◌, length, get_or, take, refl, sym, ap, ap₂, ◌∙◌, append_assoc, arith}
 use Rattle.std.proofs.lemmas.List.{length-append}
 use Rattle.ipdl_chain.specs.Chains.{Mark as MarkOf, Link, last_of, turned_links, turned_mark}
 use Rattle.ipdl_chain.specs.Views.{mark_of, first_of, others_of, links_of}
@@ -9,33 +9,42 @@ use Rattle.ipdl_term.specs.Terms.{Protocol}
 use Rattle.ipdl_term.specs.Views.{protocol_of}
 use Rattle.ipdl_term.specs.declared.protocol.Proto.{Proto}
 
--- ---- a further term
+-- ---- how many
+
+pub length-links_of : (marks : List Mark) (terms : List Proto) → length (links_of marks terms) ≡ length marks
+length-links_of [] terms = refl
+length-links_of (m ∷ ms) terms = ap suc (length-links_of ms (others_of terms))
+
+pub length-turned_links : (term : Protocol) (links : List Link) → length (turned_links term links) ≡ length links
+length-turned_links term [] = refl
+length-turned_links term (link ∷ links) =
+    let inner = length-turned_links link.term links in
+    let all = length-append (turned_links link.term links) (record { mark = turned_mark link.mark; term = term } ∷ []) in
+    omega (arith, inner, all)
+
+-- ---- further terms
 
 abbrev pub link_of : Mark → Proto → Link
 link_of mark term = record { mark = mark_of mark; term = protocol_of term }
 
-links_of-push : (marks : List Mark) (terms : List Proto) (mark : Mark) (term : Proto) → length terms ≡ length marks →
-    links_of (marks ++ mark ∷ []) (terms ++ term ∷ []) ≡ links_of marks terms ++ link_of mark term ∷ []
-links_of-push [] [] mark term h = refl
-links_of-push [] (t ∷ ts) mark term h = absurd (omega arith)
-links_of-push (m ∷ ms) [] mark term h = absurd (omega arith)
-links_of-push (m ∷ ms) (t ∷ ts) mark term h =
-    let k : length ts ≡ length ms = omega arith in ap (λ links. link_of m t ∷ links) (links_of-push ms ts mark term k)
+links_of-append : (marks more : List Mark) (terms others : List Proto) → length terms ≡ length marks →
+    links_of (marks ++ more) (terms ++ others) ≡ links_of marks terms ++ links_of more others
+links_of-append [] more [] others h = refl
+links_of-append [] more (t ∷ ts) others h = absurd (omega arith)
+links_of-append (m ∷ ms) more [] others h = absurd (omega arith)
+links_of-append (m ∷ ms) more (t ∷ ts) others h =
+    let k : length ts ≡ length ms = omega arith in ap (λ links. link_of m t ∷ links) (links_of-append ms more ts others k)
 
-pub trail_links-push : (marks : List Mark) (terms : List Proto) (mark : Mark) (term : Proto) → length terms ≡ suc (length marks) →
-    links_of (marks ++ mark ∷ []) (others_of (terms ++ term ∷ [])) ≡ links_of marks (others_of terms) ++ link_of mark term ∷ []
-trail_links-push marks [] mark term h = absurd (omega arith)
-trail_links-push marks (t ∷ ts) mark term h = let k : length ts ≡ length marks = omega arith in links_of-push marks ts mark term k
+pub trail_links-append : (marks more : List Mark) (terms others : List Proto) → length terms ≡ suc (length marks) →
+    links_of (marks ++ more) (others_of (terms ++ others)) ≡ links_of marks (others_of terms) ++ links_of more others
+trail_links-append marks more [] others h = absurd (omega arith)
+trail_links-append marks more (t ∷ ts) others h = let k : length ts ≡ length marks = omega arith in links_of-append marks more ts others k
 
-pub trail_first-push : (terms : List Proto) (term : Proto) → 0 < length terms → first_of (terms ++ term ∷ []) ≡ first_of terms
-trail_first-push [] term h = absurd (omega arith)
-trail_first-push (t ∷ ts) term h = refl
+pub trail_first-append : (terms others : List Proto) (n : ℕ) → length terms ≡ suc n → first_of (terms ++ others) ≡ first_of terms
+trail_first-append [] others n h = absurd (omega arith)
+trail_first-append (t ∷ ts) others n h = refl
 
 -- ---- the end
-
-pub last_of-push : (first : Protocol) (links : List Link) (link : Link) → last_of first (links ++ link ∷ []) ≡ link.term
-last_of-push first [] link = refl
-last_of-push first (l ∷ ls) link = last_of-push l.term ls link
 
 pub end_is : (marks : List Mark) (terms : List Proto) (k : ℕ) (d : Proto) → length terms ≡ suc (length marks) → k ≡ length marks →
     protocol_of (get_or terms k d) ≡ last_of (first_of terms) (links_of marks (others_of terms))

@@ -7,10 +7,10 @@ use Rattle.ipdl_base.specs.Limits.{limit_number}
 use Rattle.ipdl_base.specs.declared.limit.Limit.TheVariants.{Chain as ChainLimit}
 use Rattle.ipdl_chain.specs.Chains.{Link, last_of, neighbour_count}
 use Rattle.ipdl_script.proofs.DifferenceLaws.{differ_first, differs_first_exactly}
-use Rattle.ipdl_script.proofs.MeaningLaws.{last_of-step}
-use Rattle.ipdl_script.proofs.ScriptLaws.{none_of_either, script_stands, stands_script}
+use Rattle.ipdl_script.proofs.Leading.{last_of-step}
+use Rattle.ipdl_script.proofs.ScriptLaws.{script_stands, stands_script}
 use Rattle.ipdl_script.proofs.StepLaws.{step_stands, stands_step}
-use Rattle.ipdl_script.proofs.StepTests.{none_of_map, limit_test-kept, limit_is_kept}
+use Rattle.ipdl_script.proofs.StepTests.{none_of_map, none_of_either, limit_test-kept, limit_is_kept}
 use Rattle.ipdl_script.specs.EndPlaces.{differing_place}
 use Rattle.ipdl_script.specs.Scripts.{Theorem, links_of_step, count_after, IsScript, Side, left_side, right_side, Wrong, wrong_step, wrong_ends, chain_test, refusal_in_script, wrong_in_script, left_links, right_links, left_end, right_end, first_wrong, IsRefusedAt, IsFirstWrong}
 use Rattle.ipdl_script.specs.Steps.{Setting, Refusal, step_refusal, after_step}
@@ -43,13 +43,13 @@ module _ (x : Setting) where
     here r refused is = (0, r, is ∙ ap (λ k. wrong_step side k r) (omega arith), record { done = []; step = step; later = steps; links = []; in_order = refl; numbered = refl; stand = refl; refused = ap (λ k. refusal_in_script x k before step) (omega arith) ∙ refused })
 
     -- a later one
-    further : (n : ℕ) (r : Refusal) → refusal_in_script x so_far before step ≡ None → w ≡ wrong_step side (suc number + n) r → IsRefusedAt x (count_after so_far step (after_step x before step)) (after_step x before step) steps (suc n) r → Tells so_far side number before (step ∷ steps) w
+    further : (n : ℕ) (r : Refusal) → refusal_in_script x so_far before step ≡ None → w ≡ wrong_step side (suc number + n) r → IsRefusedAt x (count_after x so_far before step (after_step x before step)) (after_step x before step) steps (suc n) r → Tells so_far side number before (step ∷ steps) w
     further n r passed is rest =
         let after = after_step x before step in
-        let parts = none_of_either (step_refusal x before step) (chain_test so_far step after) passed in
+        let parts = none_of_either (step_refusal x before step) (chain_test x so_far before step after) passed in
         let stands = stands_step x before step parts.0 in
-        let links = links_of_step step after ++ rest.links in
-        let many : count_after so_far step after + neighbour_count rest.links ≡ so_far + neighbour_count links = omega (arith, length-append (links_of_step step after) rest.links) in (
+        let links = links_of_step x before step after ++ rest.links in
+        let many : count_after x so_far before step after + neighbour_count rest.links ≡ so_far + neighbour_count links = omega (arith, length-append (links_of_step x before step after) rest.links) in (
           suc n,
           r,
           is ∙ ap (λ k. wrong_step side k r) (omega arith),
@@ -60,12 +60,12 @@ module _ (x : Setting) where
             links = links;
             in_order = ap (λ l. step ∷ l) rest.in_order;
             numbered = ap suc rest.numbered;
-            stand = record { after = after; later = rest.links; stands = stands; short = limit_is_kept ChainLimit (limit_number ChainLimit) (count_after so_far step after) parts.1; rest = rest.stand; all = refl };
+            stand = record { after = after; later = rest.links; stands = stands; short = limit_is_kept ChainLimit (limit_number ChainLimit) (count_after x so_far before step after) parts.1; rest = rest.stand; all = refl };
             refused = ap₂ (λ k p. refusal_in_script x k p rest.step) (sym many) (last_of-step x before step after rest.links stands) ∙ rest.refused;
           },
         )
 
-    one_of : (later : Option Wrong) → (later ≡ Some w → Tells (count_after so_far step (after_step x before step)) side (suc number) (after_step x before step) steps w) →
+    one_of : (later : Option Wrong) → (later ≡ Some w → Tells (count_after x so_far before step (after_step x before step)) side (suc number) (after_step x before step) steps w) →
         (option_map (wrong_step side number) (refusal_in_script x so_far before step) ≡ Some w) ⊎ ((option_map (wrong_step side number) (refusal_in_script x so_far before step) ≡ None) × (later ≡ Some w)) →
         Tells so_far side number before (step ∷ steps) w
     one_of later further_on (inl k) = let m = some_of_map (wrong_step side number) (refusal_in_script x so_far before step) w k in here m.0 m.1 m.2
@@ -75,7 +75,7 @@ module _ (x : Setting) where
   wrong_tells so_far side number before [] w h = cc
   wrong_tells so_far side number before (step ∷ steps) w h =
       let after = after_step x before step in
-      let many = count_after so_far step after in
+      let many = count_after x so_far before step after in
       let later = wrong_in_script x many side (suc number) after steps in
       one_of so_far side number before step steps w later (wrong_tells many side (suc number) after steps w)
       (first_or_second (option_map (wrong_step side number) (refusal_in_script x so_far before step)) later w h)
@@ -133,12 +133,12 @@ module _ (x : Setting) where
         (same_start _ _ _ _ before before later (omega arith) (omega arith) refl)
     wrong_in_script-append so_far number before (step ∷ done) later links h =
         let after = h.after in
-        let many = count_after so_far step after in
+        let many = count_after x so_far before step after in
         let stands = step_stands x before step after h.stands in
-        let length_is : neighbour_count links ≡ neighbour_count (links_of_step step after) + neighbour_count h.later = ap neighbour_count h.all ∙ length-append (links_of_step step after) h.later in
-        let passed : option_or (option_map (wrong_step side number) (option_or (step_refusal x before step) (chain_test so_far step after))) (wrong_in_script x many side (suc number) after (done ++ later)) ≡ wrong_in_script x many side (suc number) after (done ++ later) =
-        none_before (wrong_step side number) (step_refusal x before step) (chain_test so_far step after) _ stands.0 (limit_test-kept ChainLimit (limit_number ChainLimit) many h.short) in
-        subst (λ p. option_or (option_map (wrong_step side number) (option_or (step_refusal x before step) (chain_test so_far step p))) (wrong_in_script x (count_after so_far step p) side (suc number) p (done ++ later)) ≡ wrong_in_script x many side (suc number) after (done ++ later)) (sym stands.1) passed
+        let length_is : neighbour_count links ≡ neighbour_count (links_of_step x before step after) + neighbour_count h.later = ap neighbour_count h.all ∙ length-append (links_of_step x before step after) h.later in
+        let passed : option_or (option_map (wrong_step side number) (option_or (step_refusal x before step) (chain_test x so_far before step after))) (wrong_in_script x many side (suc number) after (done ++ later)) ≡ wrong_in_script x many side (suc number) after (done ++ later) =
+        none_before (wrong_step side number) (step_refusal x before step) (chain_test x so_far before step after) _ stands.0 (limit_test-kept ChainLimit (limit_number ChainLimit) many h.short) in
+        subst (λ p. option_or (option_map (wrong_step side number) (option_or (step_refusal x before step) (chain_test x so_far before step p))) (wrong_in_script x (count_after x so_far before step p) side (suc number) p (done ++ later)) ≡ wrong_in_script x many side (suc number) after (done ++ later)) (sym stands.1) passed
         ∙ wrong_in_script-append many (suc number) after done later h.later h.rest
         ∙ same_start _ _ _ _ _ _ later (omega (arith, length_is)) (omega arith) (sym (ap (last_of before) h.all ∙ last_of-step x before step after h.later h.stands))
 
@@ -149,7 +149,7 @@ module _ (x : Setting) where
         let end = last_of before h.links in
         ap (wrong_in_script x so_far side 1 before) h.in_order
         ∙ wrong_in_script-append so_far 1 before h.done (h.step ∷ h.later) h.links h.stand
-        ∙ ap (λ o. option_or (option_map (wrong_step side n) o) (wrong_in_script x (count_after many h.step (after_step x end h.step)) side (suc n) (after_step x end h.step) h.later)) h.refused
+        ∙ ap (λ o. option_or (option_map (wrong_step side n) o) (wrong_in_script x (count_after x many end h.step (after_step x end h.step)) side (suc n) (after_step x end h.step) h.later)) h.refused
         ∙ ap (λ k. Some (wrong_step side k r)) (omega (arith, h.numbered))
 
   module _ (so_far : ℕ) (t : Theorem) where

@@ -1,5 +1,7 @@
 pub mod Instances
 pub mod Settling
+pub mod Known
+pub mod NamedItems
 pub mod Steps
 pub mod EndPlaces
 pub mod Differences
@@ -11,5 +13,5 @@ pub mod Worked
 pub mod Fitting
 pub mod TestGroups
 pub mod Trails
-pub mod HiddenNames
+pub mod Adding
 pub mod Ready

@@ -1,20 +1,15 @@
--- What the neighbours of a chain say: which rule relates the two, at which place and in which direction, and that they are
--- equal.
-use Rattle.std.specs.Prelude.{◌≡◌, ℕ, List, [], ◌∷◌, Some}
-use Rattle.ipdl_chain.specs.Chains.{Mark, by_rule, Link}
-use Rattle.ipdl_term.specs.Equality.{Equal}
+-- What a step by a rule says of its two neighbours: which rule relates the two, at which place and in which direction. And
+-- what is known of everything that a step may use.
+use Rattle.std.specs.Prelude.{◌≡◌, ℕ, List, Some}
+use Rattle.ipdl_chain.specs.Chains.{Mark, by_rule, by_theorem, by_assumption}
+use Rattle.ipdl_script.specs.Instances.{IsInstanceAt}
+use Rattle.ipdl_script.specs.Steps.{Setting, around_place, assumed_in, lemma_named}
 use Rattle.ipdl_term.specs.Places.{term_at, term_with}
 use Rattle.ipdl_term.specs.Rules.{Rule, rule_word}
 use Rattle.ipdl_term.specs.Steps.{lr, rl}
 use Rattle.ipdl_term.specs.Terms.{Protocol, Term, protocol_term}
-use Rattle.ipdl_term.specs.Typing.{port_names}
-use Rattle.ipdl_script.specs.Instances.{IsInstanceAt}
-use Rattle.ipdl_script.specs.Steps.{Setting, scope_in, around_place}
-
--- each two neighbours stand in the relation of their mark, from the first term on
-abbrev pub EachTwo : (Mark → (upper lower : Protocol) → Type 0) → (first : Protocol) → List Link → Type 0
-EachTwo Marks first [] = Unit {0}
-EachTwo Marks first (link ∷ links) = Marks link.mark first link.term × EachTwo Marks link.term links
+use Rattle.ipdl_uses.specs.Lemmas.{Lemma}
+use Rattle.ipdl_uses.specs.Meanings.{ChainMeans}
 
 -- ---- marks
 
@@ -36,13 +31,13 @@ pub record IsRewrittenBy (x : Setting) (word place : List ℕ) (first second : P
 abbrev pub IsMarked : Setting → Mark → (upper lower : Protocol) → Type 0
 IsMarked x (by_rule lr word place) upper lower = IsRewrittenBy x word place upper lower
 IsMarked x (by_rule rl word place) upper lower = IsRewrittenBy x word place lower upper
+IsMarked x (by_theorem direction name place pairs) upper lower = ⊥
+IsMarked x (by_assumption direction name place pairs C) upper lower = ⊥
 
--- ---- equality
+-- ---- what may be used
 
--- equal at the interface
-abbrev pub AreEqual : Setting → Protocol → Protocol → Type 0
-AreEqual x p q = Equal x.sig (scope_in x) (port_names x.interface.outputs) p q
-
--- what a mark means for its two neighbours: for a rule, that they are equal
-abbrev pub MeansMark : Setting → Mark → (upper lower : Protocol) → Type 0
-MeansMark x (by_rule direction word place) upper lower = AreEqual x upper lower
+-- the chain of each assumption and each earlier theorem means what it says
+abbrev pub LemmasMean : Setting → Type 0
+LemmasMean x =
+    (name : List ℕ) (lemma : Lemma) → lemma_named x name ≡ Some lemma →
+    ChainMeans x.sig lemma.interface (assumed_in x) lemma.chain

@@ -9,7 +9,7 @@ use Rattle.ipdl_term.specs.Steps.{lr, rl, Step, plain, rev, invoke}
 use Rattle.ipdl_term.specs.Terms.{Protocol, protocol_term}
 use Rattle.ipdl_script.specs.Differences.{DifferFirstAt}
 use Rattle.ipdl_script.specs.EndPlaces.{differing_place}
-use Rattle.ipdl_script.specs.Steps.{Setting, IsStep, Refusal, limit_test, step_refusal, after_step}
+use Rattle.ipdl_script.specs.Steps.{Setting, IsStep, Refusal, used_there, limit_test, step_refusal, after_step}
 
 -- a theorem: its two protocols, and the script of each, a list of steps
 pub record Theorem : Type 0 where
@@ -20,24 +20,24 @@ pub record Theorem : Type 0 where
 
 -- ---- the relation
 
--- the links that a step gives which leads to this whole term
-abbrev pub links_of_step : Step → (after : Protocol) → List Link
-links_of_step (plain place rule) after = record { mark = by_rule lr (rule_word rule) place; term = after } ∷ []
-links_of_step (rev place rule term) after = record { mark = by_rule rl (rule_word rule) place; term = after } ∷ []
-links_of_step (invoke place name direction pairs) after = []
+-- the links that a step gives which leads from one whole term to another
+abbrev pub links_of_step : Setting → (before : Protocol) → Step → (after : Protocol) → List Link
+links_of_step x before (plain place rule) after = record { mark = by_rule lr (rule_word rule) place; term = after } ∷ []
+links_of_step x before (rev place rule term) after = record { mark = by_rule rl (rule_word rule) place; term = after } ∷ []
+links_of_step x before (invoke place name direction pairs) after = (used_there x before place name direction pairs).links
 
 -- the number of neighbours with those of the step, where there are so many before it
-abbrev pub count_after : (so_far : ℕ) → Step → (after : Protocol) → ℕ
-count_after so_far step after = so_far + neighbour_count (links_of_step step after)
+abbrev pub count_after : Setting → (so_far : ℕ) → (before : Protocol) → Step → (after : Protocol) → ℕ
+count_after x so_far before step after = so_far + neighbour_count (links_of_step x before step after)
 
 -- The step leads to a whole term, and the neighbours are not too many. From that term the rest of the script goes on.
 pub record GoesOn (x : Setting) (so_far : ℕ) (before : Protocol) (step : Step) (Rest : ℕ → Protocol → List Link → Type 0) (links : List Link) : Type 0 where
   pub after : Protocol
   pub later : List Link
   pub stands : IsStep x before step after
-  pub short : count_after so_far step after ≤ limit_number ChainLimit
-  pub rest : Rest (count_after so_far step after) after later
-  pub all : links ≡ links_of_step step after ++ later
+  pub short : count_after x so_far before step after ≤ limit_number ChainLimit
+  pub rest : Rest (count_after x so_far before step after) after later
+  pub all : links ≡ links_of_step x before step after ++ later
 
 -- The steps, each from the whole term before it, give these links. So many neighbours there are before them.
 abbrev pub IsScript : Setting → (so_far : ℕ) → (before : Protocol) → List Step → List Link → Type 0
@@ -68,13 +68,14 @@ pub data Wrong : Type 0 where
   wrong_ends : (place : List ℕ) → Wrong
 
 -- with the step there are too many neighbours
-abbrev pub chain_test : (so_far : ℕ) → Step → (after : Protocol) → Option Refusal
-chain_test so_far step after = limit_test ChainLimit (limit_number ChainLimit) (count_after so_far step after)
+abbrev pub chain_test : Setting → (so_far : ℕ) → (before : Protocol) → Step → (after : Protocol) → Option Refusal
+chain_test x so_far before step after =
+    limit_test ChainLimit (limit_number ChainLimit) (count_after x so_far before step after)
 
 -- why the step is refused in a script, where there are so many neighbours before it
 abbrev pub refusal_in_script : Setting → (so_far : ℕ) → (before : Protocol) → Step → Option Refusal
 refusal_in_script x so_far before step =
-    option_or (step_refusal x before step) (chain_test so_far step (after_step x before step))
+    option_or (step_refusal x before step) (chain_test x so_far before step (after_step x before step))
 
 -- the first step of a script that is refused; the first step of all has this number
 abbrev pub wrong_in_script : Setting → (so_far : ℕ) → Side → (number : ℕ) → (before : Protocol) → List Step → Option Wrong
@@ -82,14 +83,14 @@ wrong_in_script x so_far side number before [] = None
 wrong_in_script x so_far side number before (step ∷ steps) =
     let after = after_step x before step in
     option_or (option_map (wrong_step side number) (refusal_in_script x so_far before step))
-    (wrong_in_script x (count_after so_far step after) side (suc number) after steps)
+    (wrong_in_script x (count_after x so_far before step after) side (suc number) after steps)
 
 -- the links of a script in which no step is refused
 abbrev pub links_of_script : Setting → (before : Protocol) → List Step → List Link
 links_of_script x before [] = []
 links_of_script x before (step ∷ steps) =
     let after = after_step x before step in
-    links_of_step step after ++ links_of_script x after steps
+    links_of_step x before step after ++ links_of_script x after steps
 
 abbrev pub left_links : Setting → Theorem → List Link
 left_links x t = links_of_script x t.left t.lefts

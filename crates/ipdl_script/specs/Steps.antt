@@ -1,29 +1,51 @@
 -- Steps: from which whole term to which other one a step leads, and the tests that refuse a step, in their order.
-use Rattle.std.specs.Prelude.{◌≡◌, ℕ, ◌≤◌, nat_le, Bool, true, false, ◌&&◌, List, [], ◌∷◌, ◌++◌, length, Option, Some, None, is_some, option_map, if◌then◌else◌}
+use Rattle.std.specs.Prelude.{◌≡◌, ℕ, ◌≤◌, nat_le, Bool, true, false, ◌&&◌, List, [], ◌∷◌, ◌++◌, length, map, Option, Some, None, is_some, option_map, if◌then◌else◌}
+use Rattle.std.specs.List.{AllByRecursion}
 use Rattle.std.specs.Option.{option_or}
 use Rattle.ipdl_base.specs.Limits.{limit_number}
 use Rattle.ipdl_base.specs.declared.limit.Limit.{Limit}
 use Rattle.ipdl_base.specs.declared.limit.Limit.TheVariants.{Nodes, Channels, Depth}
+use Rattle.ipdl_chain.specs.Chains.{Link, Chain}
+use Rattle.ipdl_embed.specs.Completing.{completed}
+use Rattle.ipdl_embed.specs.Pairs.{Pairs}
+use Rattle.ipdl_forms.specs.Documents.{Entry}
 use Rattle.ipdl_term.specs.Interpretations.{Signature}
-use Rattle.ipdl_term.specs.Places.{protocol_or, term_at, term_with}
+use Rattle.ipdl_term.specs.Places.{protocol_or, term_at, term_with, context_at}
 use Rattle.ipdl_term.specs.Rules.{RuleKind, at_reactions, at_expressions, at_protocols, row_of}
 use Rattle.ipdl_term.specs.Same.{same_term}
 use Rattle.ipdl_term.specs.Sizes.{most_nodes, term_nodes, protocol_nodes, channel_count, printed_depth, greatest_printed_depth}
-use Rattle.ipdl_term.specs.Steps.{Step, plain, rev, invoke}
+use Rattle.ipdl_term.specs.Steps.{Direction, Step, plain, rev, invoke}
 use Rattle.ipdl_term.specs.Surroundings.{Surroundings, outermost, around}
-use Rattle.ipdl_term.specs.Terms.{Protocol, Term, protocol_term, reaction_term, expression_term}
+use Rattle.ipdl_term.specs.Terms.{Channel, Protocol, Context, Term, protocol_term, reaction_term, expression_term}
 use Rattle.ipdl_term.specs.Typing.{Scope, scope_of, HasInterface}
 use Rattle.ipdl_term.specs.declared.interface.Interface.{Interface}
 use Rattle.ipdl_typing.specs.Checks.{Failure, first_failure}
 use Rattle.ipdl_typing.specs.Interfaces.{interface_failures}
 use Rattle.ipdl_rules_r.specs.TruthTests.{TruthRefusal}
+use Rattle.ipdl_uses.specs.Lemmas.{Lemma, right_of}
+use Rattle.ipdl_uses.specs.Meanings.{Sides}
+use Rattle.ipdl_uses.specs.Usable.{IsUsable, UseRefusal, use_refusal}
+use Rattle.ipdl_uses.specs.Usable as U
+use Rattle.ipdl_uses.specs.Uses.{used}
 use Rattle.ipdl_script.specs.Instances.{IsInstanceAt, Answer, other_shape, failing, gives, answer_at, truth_at}
+use Rattle.ipdl_script.specs.Known.{Proved, lemma_among, sides_named}
 use Rattle.ipdl_script.specs.Settling.{unsettled_in_step, settled_step}
 
--- what the steps of a theorem are checked against: the symbols, and the interface of its left protocol
+-- what the steps of a theorem are checked against: the symbols and the items of the document, the theorems before it, and
+-- the interface of its left protocol
 pub record Setting : Type 0 where
   pub sig : Signature
+  pub entries : List Entry
+  pub theorems : List Proved
   pub interface : Interface
+
+-- what a step may use by this name
+abbrev pub lemma_named : Setting → (name : List ℕ) → Option Lemma
+lemma_named x name = lemma_among x.entries x.theorems name
+
+-- the sides of the assumption of the name
+abbrev pub assumed_in : Setting → (name : List ℕ) → Option Sides
+assumed_in x name = sides_named x.entries name
 
 -- the channels of the interface
 abbrev pub scope_in : Setting → Scope
@@ -52,6 +74,26 @@ settled_there x before step = settled_step (depth_at x before step) step
 
 -- ---- the relation
 
+-- ---- uses
+
+-- what is used where there is something of the name, and a protocol at the place
+abbrev pub used_at : (before : Protocol) → (place name : List ℕ) → Direction → Pairs → Option Lemma → Option Context → Chain
+used_at before place name direction pairs (Some lemma) (Some C) =
+    used direction (record { name = name; place = place; around = C; pairs = completed lemma.interface pairs }) lemma.chain
+used_at before place name direction pairs (Some lemma) None = record { first = before; links = [] }
+used_at before place name direction pairs None C = record { first = before; links = [] }
+
+-- the neighbours that the use gives there
+abbrev pub used_there : Setting → (before : Protocol) → (place name : List ℕ) → Direction → Pairs → Chain
+used_there x before place name direction pairs =
+    used_at before place name direction pairs (lemma_named x name) (context_at before place)
+
+-- the terms that are added
+abbrev pub further_terms : Chain → List Protocol
+further_terms chain = map (λ (link : Link). link.term) chain.links
+
+-- ---- rules
+
 -- whether a rule of this kind has a step back: at expressions there is none
 abbrev pub is_reversible : RuleKind → Bool
 is_reversible at_expressions = false
@@ -76,9 +118,9 @@ pub record KeepsLimits (p : Protocol) : Type 0 where
   pub channels : channel_count p ≤ limit_number Channels
   pub depth : printed_depth p ≤ greatest_printed_depth
 
--- The step leads from the one whole term to the other: its place is there, and the part at it becomes the other side of
--- the rule.
-pub record IsStep (x : Setting) (before : Protocol) (step : Step) (after : Protocol) : Type 0 where
+-- The step by a rule leads from the one whole term to the other: its place is there, and the part at it becomes the other
+-- side of the rule.
+pub record IsRuleStep (x : Setting) (before : Protocol) (step : Step) (after : Protocol) : Type 0 where
   pub old : Term
   pub new : Term
   pub place : term_at (protocol_term before) (place_of step) ≡ Some old
@@ -88,6 +130,23 @@ pub record IsStep (x : Setting) (before : Protocol) (step : Step) (after : Proto
   pub whole : term_with (protocol_term before) (place_of step) new ≡ protocol_term after
   pub within : KeepsLimits after
   pub typed : HasInterface x.sig x.interface after
+
+-- The lemma of the name is used at the place, under pairs for all of its channels: it gives this chain, whose terms are all
+-- within the limits, and which leads to the other whole term.
+pub record IsUseStep (x : Setting) (before : Protocol) (place name : List ℕ) (direction : Direction) (pairs : Pairs) (after : Protocol) : Type 0 where
+  pub lemma : Lemma
+  pub part : Protocol
+  pub there : lemma_named x name ≡ Some lemma
+  pub at_place : term_at (protocol_term before) place ≡ Some (protocol_term part)
+  pub usable : IsUsable lemma direction part (around_place x before place).scope pairs
+  pub within : AllByRecursion KeepsLimits (further_terms (used_there x before place name direction pairs))
+  pub leads : right_of (used_there x before place name direction pairs) ≡ after
+  pub typed : HasInterface x.sig x.interface after
+
+abbrev pub IsStep : Setting → (before : Protocol) → Step → (after : Protocol) → Type 0
+IsStep x before (plain place rule) after = IsRuleStep x before (plain place rule) after
+IsStep x before (rev place rule term) after = IsRuleStep x before (rev place rule term) after
+IsStep x before (invoke place name direction pairs) after = IsUseStep x before place name direction pairs after
 
 -- ---- what the tests look at
 
@@ -123,6 +182,10 @@ pub data Refusal : Type 0 where
   ill_typed : Failure → Refusal
   over : Limit → Refusal
   untrue : TruthRefusal → Refusal
+  no_channel : Channel → Refusal
+  not_injective : (first second : Channel) → Refusal
+  captured : Channel → Refusal
+  no_port : Channel → Refusal
 
 abbrev pub refused_unless : Bool → Refusal → Option Refusal
 refused_unless true refusal = None
@@ -178,6 +241,41 @@ abbrev pub truth_test : Setting → Surroundings → Step → (part : Option Ter
 truth_test x there (plain place rule) (Some part) (gives right) = option_map untrue (truth_at x.sig there rule part)
 truth_test _ _ _ _ _ = None
 
+-- ---- the tests of a use
+
+-- the protocol of a part
+abbrev pub protocol_in : Option Term → Option Protocol
+protocol_in (Some (protocol_term p)) = Some p
+protocol_in _ = None
+
+-- why a step is refused whose use is
+abbrev pub refusal_of_use : UseRefusal → Refusal
+refusal_of_use (U.no_channel c) = no_channel c
+refusal_of_use (U.not_injective c d) = not_injective c d
+refusal_of_use (U.captured c) = captured c
+refusal_of_use U.not_side = no_match
+refusal_of_use (U.no_port c) = no_port c
+
+-- what is of the name may not be used there, or nothing has the name
+abbrev pub use_test : Option Lemma → Direction → (part : Option Term) → Scope → Pairs → Option Refusal
+use_test (Some lemma) direction part scope pairs =
+    option_map refusal_of_use (use_refusal lemma direction (protocol_in part) scope pairs)
+use_test None direction part scope pairs = Some no_match
+
+-- a whole term that is added is too large
+abbrev pub extent_tests : List Protocol → List (Option Refusal)
+extent_tests [] = []
+extent_tests (term ∷ terms) = nodes_test term ∷ channels_test term ∷ depth_test term ∷ extent_tests terms
+
+-- the tests in their order
+abbrev pub use_tests : Setting → (before : Protocol) → (place name : List ℕ) → Direction → Pairs → List (Option Refusal)
+use_tests x before place name direction pairs =
+    let added = used_there x before place name direction pairs in
+    let part = term_at (protocol_term before) place in
+    place_test part
+    ∷ use_test (lemma_named x name) direction part (around_place x before place).scope pairs
+    ∷ extent_tests (further_terms added) ++ type_test x (right_of added) ∷ []
+
 -- ---- all tests of a step
 
 -- the tests in their order, of a settled step, what is around its place and the part there, and what its rule answers
@@ -204,10 +302,16 @@ part_of before step = term_at (protocol_term before) (place_of step)
 abbrev pub answered_there : Setting → Protocol → Step → Answer
 answered_there x before step = answer_to x (around_step x before step) (settled_there x before step) (part_of before step)
 
-abbrev pub step_tests : Setting → Protocol → Step → List (Option Refusal)
-step_tests x before step =
+-- those of a step by a rule
+abbrev pub rule_tests : Setting → Protocol → Step → List (Option Refusal)
+rule_tests x before step =
     tests_of x before (around_step x before step) (settled_there x before step)
     (unsettled_in_step (depth_at x before step) step) (part_of before step) (answered_there x before step)
+
+abbrev pub step_tests : Setting → Protocol → Step → List (Option Refusal)
+step_tests x before (plain place rule) = rule_tests x before (plain place rule)
+step_tests x before (rev place rule term) = rule_tests x before (rev place rule term)
+step_tests x before (invoke place name direction pairs) = use_tests x before place name direction pairs
 
 -- the first refusal of some tests
 abbrev pub first_refusal : List (Option Refusal) → Option Refusal
@@ -223,6 +327,12 @@ AllPass (test ∷ tests) = (test ≡ None) × AllPass tests
 abbrev pub step_refusal : Setting → Protocol → Step → Option Refusal
 step_refusal x before step = first_refusal (step_tests x before step)
 
--- the whole term to which a step leads that stands
+-- the whole term to which a step by a rule leads that stands
+abbrev pub after_rule : Setting → Protocol → Step → Protocol
+after_rule x before step = changed before (settled_there x before step) (answered_there x before step)
+
+-- that of a step
 abbrev pub after_step : Setting → Protocol → Step → Protocol
-after_step x before step = changed before (settled_there x before step) (answered_there x before step)
+after_step x before (plain place rule) = after_rule x before (plain place rule)
+after_step x before (rev place rule term) = after_rule x before (rev place rule term)
+after_step x before (invoke place name direction pairs) = right_of (used_there x before place name direction pairs)

@@ -1,4 +1,4 @@
--- The tests of a step in groups, as the calls make them: those of the part at the place, and those of the new whole term.
+-- The tests of a step by a rule in groups, as the calls make them: of the part at the place, and of the new whole term.
 use Rattle.std.specs.Prelude.{◌≡◌, ℕ, Bool, true, false, option_map, List, [], ◌∷◌, Option, None, Result, Ok, Err, IsSomeAnd}
 use Rattle.std.specs.Option.{option_or}
 use Rattle.ipdl_chain.specs.Chains.{last_of}

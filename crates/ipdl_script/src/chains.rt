@@ -2,13 +2,13 @@
 //! of a chain are to each other.
 
 ghost use Rattle.std.specs.Prelude.{◌≡◌, ◌↔◌, ℕ, None, Some};
-ghost use Rattle.std.specs.List.{AllByRecursion};
-ghost use Rattle.ipdl_chain.specs.Chains.{Chain, last_of, terms_of};
+ghost use Rattle.ipdl_chain.specs.Chains.{Chain, last_of};
 ghost use Rattle.ipdl_rules_r.specs.Tables.{TablesAreWhole};
-ghost use Rattle.ipdl_script.specs.Meanings.{AreEqual, EachTwo, IsMarked, MeansMark};
+ghost use Rattle.ipdl_script.specs.Meanings.{LemmasMean};
 ghost use Rattle.ipdl_script.specs.Scripts.{IsChain, IsFirstWrong, Theorem, Wrong, chain_of_scripts, first_wrong};
-ghost use Rattle.ipdl_script.specs.Steps.{Setting};
+ghost use Rattle.ipdl_script.specs.Steps.{Setting, assumed_in};
 ghost use Rattle.ipdl_term.specs.Typing.{HasInterface};
+ghost use Rattle.ipdl_uses.specs.Meanings.{ChainMeans};
 
 /// A theorem has a chain exactly where nothing is wrong, and then this one.
 pub fn chain_exactly()
@@ -36,32 +36,12 @@ pub fn chain_leads_across()
         (chain.first ≡ t.left) × (last_of chain.first chain.links ≡ t.right) }
 {}
 
-/// Each two neighbours of a chain have the sides of the rule of their mark, at its place and in its
-/// direction.
-pub fn chain_is_marked()
-    ensures { (x : Setting) (so_far : ℕ) (t : Theorem) (chain : Chain) → IsChain x so_far t chain →
-        EachTwo (IsMarked x) chain.first chain.links }
-{}
-
-/// Each two neighbours of a chain between protocols of the interface mean what their mark says: they
-/// are equal there, where each table has a value for each argument.
-pub fn chains_mean()
-    ensures { (x : Setting) → TablesAreWhole x.sig → (so_far : ℕ) (t : Theorem) (chain : Chain) → IsChain x so_far t chain →
+/// A chain between protocols of the interface means what it says, where each table has a value for
+/// each argument and all that may be used means what it says: its terms have the interface, each two
+/// neighbours are what their mark says, and equal where the assumptions that it counts are true.
+pub fn chain_means()
+    ensures { (x : Setting) → TablesAreWhole x.sig → LemmasMean x →
+        (so_far : ℕ) (t : Theorem) (chain : Chain) → IsChain x so_far t chain →
         HasInterface x.sig x.interface t.left → HasInterface x.sig x.interface t.right →
-        EachTwo (MeansMark x) chain.first chain.links }
-{}
-
-/// The two protocols of a theorem that has a chain are equal, where each table has a value for each
-/// argument.
-pub fn sides_are_equal()
-    ensures { (x : Setting) → TablesAreWhole x.sig → (so_far : ℕ) (t : Theorem) (chain : Chain) → IsChain x so_far t chain →
-        HasInterface x.sig x.interface t.left → HasInterface x.sig x.interface t.right →
-        AreEqual x t.left t.right }
-{}
-
-/// Each term of a chain between protocols of the interface has the interface.
-pub fn terms_have_interface()
-    ensures { (x : Setting) (so_far : ℕ) (t : Theorem) (chain : Chain) → IsChain x so_far t chain →
-        HasInterface x.sig x.interface t.left → HasInterface x.sig x.interface t.right →
-        AllByRecursion (HasInterface x.sig x.interface) (terms_of chain) }
+        ChainMeans x.sig x.interface (assumed_in x) chain }
 {}

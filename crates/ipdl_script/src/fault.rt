@@ -4,7 +4,7 @@ ghost use Rattle.std.specs.Prelude.{◌≡◌};
 ghost use Rattle.ipdl_script.specs.declared.fault.ScriptFault.TheVariants.{Memory as NoRoom};
 ghost use Rattle.ipdl_script.specs.declared.fault.StepFault.TheVariants.{Memory};
 
-use ipdl_base::{Bits, Limit, List, NoMemory, Path};
+use ipdl_base::{Bits, Limit, List, Name, NoMemory, Path};
 use ipdl_typing::Ill;
 
 /// A side of a theorem, whose script starts at its protocol.
@@ -22,10 +22,19 @@ pub enum Cause {
     /// The outer variable of this number, in an argument or in the term that is written out, has no
     /// binder around the place.
     NoVariable { number: u32 },
-    /// The place is of another kind than the rule, or the term has not its left shape.
+    /// A pair is for this channel, which the interface of what is used does not have.
+    NoChannel { name: Name },
+    /// These two channels of the interface get one name.
+    NotInjective { first: Name, second: Name },
+    /// This new name is hidden in a side of the assumption, or in a term of the theorem's chain.
+    Capture { name: Name },
+    /// The place is of another kind than the rule, or the term has not its left shape; or the part is
+    /// not the side that is used, in its new names.
     NoMatch,
     /// The side condition of this number, counted from 1, is the first that fails.
     Side(u8),
+    /// This new name is not visible at the place with its channel's width.
+    NoPort { name: Name },
     /// The rule does not make the part at the place of the term that is written out.
     NotResult,
     /// The new whole term is not well typed at the theorem's interface.

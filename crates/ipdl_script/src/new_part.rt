@@ -1,20 +1,18 @@
-//! The new part that a step puts at its place.
+//! The new part that a step by a rule puts at its place.
 
-ghost use Rattle.std.specs.Option.{option_or};
 ghost use Rattle.std.specs.Prelude.{◌≡◌, ◌≤◌, [], ℕ, None, Some, IfOk, OnOk};
 ghost use Rattle.ipdl_cursor.specs.Views.{part_of};
 ghost use Rattle.ipdl_rules_p.specs.Matching as P;
 ghost use Rattle.ipdl_rules_p.specs.Room as ProtoRoom;
 ghost use Rattle.ipdl_rules_r.specs.Matching as Q;
 ghost use Rattle.ipdl_rules_r.specs.Room.{HasRoom};
-ghost use Rattle.ipdl_script.specs.Answers.{TellsRefusal};
 ghost use Rattle.ipdl_script.specs.Fitting.{WholeFits, StepFits};
 ghost use Rattle.ipdl_script.specs.Instances.{answer_at, answer_of_protocols, answer_of_reactions, gives};
 ghost use Rattle.ipdl_script.specs.Settling.{settled_rule, unsettled_in_arguments};
-ghost use Rattle.ipdl_script.specs.Steps.{around_place, no_match, place_test};
+ghost use Rattle.ipdl_script.specs.Steps.{around_place};
 ghost use Rattle.ipdl_script.specs.TestGroups.{AnswersTest, HasRoomFor, IsChanged, answer_refusal, change_refusal, part_refusal, written_answer};
+ghost use Rattle.ipdl_script.specs.Trails.{IsByRule};
 ghost use Rattle.ipdl_script.specs.Views.{setting_of};
-ghost use Rattle.ipdl_term.specs.Places.{term_at};
 ghost use Rattle.ipdl_term.specs.Rules.{rule_arguments};
 ghost use Rattle.ipdl_term.specs.Sizes.{most_nodes};
 ghost use Rattle.ipdl_term.specs.Steps.{plain, rev, rule_of, step_of};
@@ -224,18 +222,6 @@ fn rev_part(
 
 // ---- a step
 
-// Why a step by an assumption or a theorem is refused.
-fn refused_invoke(setting: &Setting<'_>, before: &Proto, path: &Path) -> StepFault
-    requires { WholeFits (setting_of setting.now) (protocol_of before.now) }
-    ensures { TellsRefusal result
-        (option_or (place_test (term_at (protocol_term (protocol_of before.now)) path.now)) (Some no_match)) }
-{
-    match find(setting, before, path) {
-        Ok(_) => StepFault::Refused(Cause::NoMatch),
-        Err(fault) => fault,
-    }
-}
-
 // The new part of the step, if it is not refused before the new whole term is made.
 pub(crate) fn new_part(
     alloc: Global,
@@ -245,6 +231,7 @@ pub(crate) fn new_part(
 ) -> Result<Box<Part>, StepFault>
     requires whole { WholeFits (setting_of setting.now) (protocol_of before.now) }
     requires fits { StepFits (step_of step.now) }
+    requires by { IsByRule (step_of step.now) }
     ensures test { AnswersTest result
         (part_refusal (setting_of setting.now) (protocol_of before.now) (step_of step.now)) }
     ensures changed { IfOk result (λ new.
@@ -253,6 +240,6 @@ pub(crate) fn new_part(
     match step {
         Step::Plain { path, rule } => plain_part(alloc, setting, before, path, rule),
         Step::Rev { path, rule, term } => rev_part(alloc, setting, before, path, rule, term),
-        Step::Invoke { path, .. } => Err(refused_invoke(setting, before, path)),
+        Step::Invoke { .. } => unreachable!(),
     }
 }

@@ -1,23 +1,28 @@
-//! One step: from a whole term to the one that it makes of it.
+//! Steps by rules: from a whole term to the one that a rule makes of it.
 
 ghost use Rattle.std.specs.Option.{option_or};
 ghost use Rattle.std.specs.Prelude.{◌≡◌, [], ◌∷◌, None, true, IfOk, OnOk};
+ghost use Rattle.ipdl_script.specs.Adding.{IsAdded};
 ghost use Rattle.ipdl_script.specs.Answers.{StepsFrom};
 ghost use Rattle.ipdl_script.specs.Fitting.{StepFits, WholeFits};
-ghost use Rattle.ipdl_script.specs.Steps.{KeepsLimits, after_step, channels_test, depth_test, first_refusal, nodes_test, place_of, type_test};
+ghost use Rattle.ipdl_script.specs.Steps.{KeepsLimits, after_step, channels_test, depth_test, first_refusal, nodes_test, place_of, step_refusal, type_test};
 ghost use Rattle.ipdl_script.specs.TestGroups.{AnswersTest, KeepsType, keeps_type, part_refusal, truth_there, whole_refusal};
+ghost use Rattle.ipdl_script.specs.Trails.{IsByRule};
 ghost use Rattle.ipdl_script.specs.Views.{setting_of};
 ghost use Rattle.ipdl_term.specs.Steps.{rule_of, step_of};
 ghost use Rattle.ipdl_term.specs.Typing.{HasInterface};
 ghost use Rattle.ipdl_term.specs.Views.{protocol_of};
 ghost use Rattle.ipdl_typing.specs.Signatures.{signature_of};
 
+use crate::adding_step::AddedTerms;
 use crate::fault::{Cause, StepFault};
 use crate::limits::check_limit;
+use crate::marks::mark_of_step;
 use crate::new_part::new_part;
 use crate::setting::Setting;
 use crate::truth::check_truth;
-use ipdl_base::{Limit, Path};
+use ipdl_base::{Limit, List, NoMemory, Path};
+use ipdl_chain::Mark;
 use ipdl_cursor::replaced;
 use ipdl_term::{Proto, Rule, Step, measure};
 use ipdl_typing::{TypeFault, check_proto};
@@ -29,7 +34,7 @@ pub const GREATEST_DEPTH: u64 = 190;
 // ---- the new whole term
 
 // Checks how many nodes and assignments there are, and how deep the parentheses nest in print.
-fn check_extent(after: &Proto) -> Result<(), StepFault>
+pub(crate) fn check_extent(after: &Proto) -> Result<(), StepFault>
     ensures test { AnswersTest result (first_refusal (nodes_test (protocol_of after.now)
         ∷ channels_test (protocol_of after.now) ∷ depth_test (protocol_of after.now) ∷ [])) }
     ensures kept { OnOk result (KeepsLimits (protocol_of after.now)) }
@@ -41,7 +46,11 @@ fn check_extent(after: &Proto) -> Result<(), StepFault>
 }
 
 // Checks that the term has the theorem's interface.
-fn check_type(alloc: Global, setting: &Setting<'_>, after: &Proto) -> Result<(), StepFault>
+pub(crate) fn check_type(
+    alloc: Global,
+    setting: &Setting<'_>,
+    after: &Proto,
+) -> Result<(), StepFault>
     ensures test { AnswersTest result (type_test (setting_of setting.now) (protocol_of after.now)) }
     ensures typed { OnOk result
         (HasInterface (signature_of setting.now.sig.now) setting.now.interface.now (protocol_of after.now)) }
@@ -130,6 +139,7 @@ fn check_after(
     after: &Proto,
 ) -> Result<(), StepFault>
     requires whole { WholeFits (setting_of setting.now) (protocol_of before.now) }
+    requires by { IsByRule (step_of step.now) }
     requires passed { part_refusal (setting_of setting.now) (protocol_of before.now) (step_of step.now) ≡ None }
     requires after { after_step (setting_of setting.now) (protocol_of before.now) (step_of step.now)
         ≡ protocol_of after.now }
@@ -150,6 +160,7 @@ fn accepted(
     after: Proto,
 ) -> Result<Proto, StepFault>
     requires whole { WholeFits (setting_of setting.now) (protocol_of before.now) }
+    requires by { IsByRule (step_of step.now) }
     requires passed { part_refusal (setting_of setting.now) (protocol_of before.now) (step_of step.now) ≡ None }
     requires after { after_step (setting_of setting.now) (protocol_of before.now) (step_of step.now)
         ≡ protocol_of after }
@@ -175,11 +186,8 @@ fn path_of(step: &Step) -> &Path
     }
 }
 
-/// The whole term to which the step leads from the term before it. Its tests are made in this order,
-/// and the first that fails is told: the place, the outer variables, the shape of the rule's left
-/// side, its side conditions, the size of its right side, for `rev` the part at the place, the nodes,
-/// the channels and the depth of the new whole term, its type, and the truth that the rule asks for.
-pub fn take_step(
+// The whole term to which the step leads from the term before it.
+fn stepped(
     alloc: Global,
     setting: &Setting<'_>,
     before: &Proto,
@@ -187,10 +195,43 @@ pub fn take_step(
 ) -> Result<Proto, StepFault>
     requires whole { WholeFits (setting_of setting.now) (protocol_of before.now) }
     requires term { StepFits (step_of step.now) }
+    requires by { IsByRule (step_of step.now) }
     ensures steps { StepsFrom result (setting_of setting.now) (protocol_of before.now) (step_of step.now) }
     ensures fits { IfOk result (λ after. WholeFits (setting_of setting.now) (protocol_of after)) }
 {
     let part = new_part(alloc, setting, before, step)?;
     let after = replaced(alloc, before, path_of(step), part)?;
     accepted(alloc, setting, before, step, after)
+}
+
+// One further term.
+fn one_added(alloc: Global, term: Proto, mark: Mark) -> Result<AddedTerms, NoMemory>
+    ensures terms { IfOk result (λ added. added.terms ≡ term ∷ []) }
+    ensures marks { IfOk result (λ added. added.marks ≡ mark ∷ []) }
+{
+    let mut terms = List::empty(alloc);
+    terms.push(term)?;
+    let mut marks = List::empty(alloc);
+    marks.push(mark)?;
+    Ok(AddedTerms { terms, marks })
+}
+
+// The whole term that a step by a rule adds, and its mark.
+pub(crate) fn added_by_rule(
+    alloc: Global,
+    setting: &Setting<'_>,
+    before: &Proto,
+    step: &Step,
+) -> Result<AddedTerms, StepFault>
+    requires whole { WholeFits (setting_of setting.now) (protocol_of before.now) }
+    requires term { StepFits (step_of step.now) }
+    requires by { IsByRule (step_of step.now) }
+    ensures test { AnswersTest result
+        (step_refusal (setting_of setting.now) (protocol_of before.now) (step_of step.now)) }
+    ensures added { IfOk result (λ added. IsAdded (setting_of setting.now) (protocol_of before.now)
+        (step_of step.now) added.terms added.marks) }
+{
+    let after = stepped(alloc, setting, before, step)?;
+    let mark = mark_of_step(alloc, step)?;
+    Ok(one_added(alloc, after, mark)?)
 }

@@ -4,32 +4,34 @@ ghost use Rattle.std.specs.Prelude.{◌≡◌, ◌+◌, ◌≤◌, ◌∷◌, []
 ghost use Rattle.ipdl_base.specs.Limits.{limit_number};
 ghost use Rattle.ipdl_base.specs.declared.limit.Limit.TheVariants.{Chain as ChainLimit};
 ghost use Rattle.ipdl_chain.specs.Chains.{neighbour_count, turned_links};
-ghost use Rattle.ipdl_chain.specs.Views.{HasTermsWithin, chain_of};
+ghost use Rattle.ipdl_chain.specs.Views.{chain_of};
 ghost use Rattle.ipdl_forms.specs.Lookups.{protocol_named};
 ghost use Rattle.ipdl_forms.specs.declared.document.ProtocolItem.{ProtocolItem as Found};
+ghost use Rattle.ipdl_script.specs.Adding.{HasKeptBodies, IsKeptSetting};
 ghost use Rattle.ipdl_script.specs.Answers.{AnswersTheorem};
 ghost use Rattle.ipdl_script.specs.EndPlaces.{differing_place};
 ghost use Rattle.ipdl_script.specs.Fitting.{StepFits, WholeFits};
-ghost use Rattle.ipdl_script.specs.HiddenNames.{hidden_in};
 ghost use Rattle.ipdl_script.specs.Ready.{HasFitSides, IsReady, neighbours_in, setting_at, theorem_between};
 ghost use Rattle.ipdl_script.specs.Scripts.{chain_of_scripts, first_wrong, links_of_script, wrong_ends};
 ghost use Rattle.ipdl_script.specs.TestGroups.{AnswersScripts, wrong_on_right};
-ghost use Rattle.ipdl_script.specs.Trails.{IsTrail, trail_end, trail_first, trail_links};
+ghost use Rattle.ipdl_script.specs.Trails.{IsTrail, IsTrailWithin, trail_end, trail_first, trail_links};
 ghost use Rattle.ipdl_script.specs.Views.{setting_of};
 ghost use Rattle.ipdl_term.specs.Channels.{SameSet};
 ghost use Rattle.ipdl_term.specs.Steps.{step_of};
 ghost use Rattle.ipdl_term.specs.Views.{protocol_of};
+ghost use Rattle.ipdl_uses.specs.Lemmas.{hidden_in_terms};
+ghost use Rattle.ipdl_uses.specs.Views.{IsKept};
 
 use crate::comparing::differing_at;
 use crate::fault::{ScriptFault, Side, Wrong};
 use crate::following::followed;
-use crate::hidden::hidden_in;
 use crate::setting::Setting;
 use crate::trail::{Trail, turned_back};
 use ipdl_base::{List, NoMemory, Path};
 use ipdl_chain::Chain;
 use ipdl_forms::{Document, TheoremItem};
-use ipdl_term::{Proto, Step};
+use ipdl_term::{Interface, Proto, Step};
+use ipdl_uses::hidden_in;
 use std::alloc::Global;
 
 /// A document, and the chains of its theorems so far.
@@ -73,6 +75,20 @@ fn neighbours_in(chains: &[Chain]) -> u64
     count
 }
 
+// What the steps of a theorem are checked against whose left protocol has this interface.
+fn setting_with<'b>(book: &'b Book<'_>, interface: &'b Interface) -> Setting<'b>
+    ensures value { setting_of result ≡ setting_at book.now.document.now book.now.chains interface.now }
+    ensures kept { HasKeptBodies book.now.document.now →
+        All (IsKept (length book.now.document.now.sig)) book.now.chains → IsKeptSetting result }
+{
+    Setting {
+        sig: &book.document.sig,
+        document: book.document,
+        chains: book.chains.as_slice(),
+        interface,
+    }
+}
+
 // Checks that both sides have come to one term.
 fn check_ends(alloc: Global, left: &Proto, right: &Proto) -> Result<(), ScriptFault>
     ensures { AnswersScripts result
@@ -99,13 +115,14 @@ fn trail_across(
     requires trail { IsTrail (setting_of setting.now) lefts }
     requires whole { WholeFits (setting_of setting.now) (protocol_of right.now) }
     requires steps { All (λ step. StepFits (step_of step)) steps.now }
+    requires kept { IsKeptSetting setting.now }
     requires short { neighbours ≤ limit_number ChainLimit }
     ensures test { AnswersScripts result (wrong_on_right (setting_of setting.now) neighbours
         (trail_end lefts) (protocol_of right.now) (map step_of steps.now)) }
     ensures first { IfOk result (λ trail. trail_first trail ≡ trail_first lefts) }
     ensures links { IfOk result (λ trail. trail_links trail ≡ trail_links lefts ++ turned_links (protocol_of right.now)
         (links_of_script (setting_of setting.now) (protocol_of right.now) (map step_of steps.now))) }
-    ensures trail { IfOk result (λ trail. IsTrail (setting_of setting.now) trail) }
+    ensures within { IfOk result (λ trail. IsTrailWithin (length (setting_of setting.now).sig) trail) }
     ensures short { OnOk result (neighbours + neighbour_count (links_of_script (setting_of setting.now)
         (protocol_of right.now) (map step_of steps.now)) ≤ limit_number ChainLimit) }
 {
@@ -128,13 +145,14 @@ fn trail_between(
     right: &Proto,
 ) -> Result<Trail, ScriptFault>
     requires sides { HasFitSides (setting_of setting.now) theorem.now (protocol_of left.now) (protocol_of right.now) }
+    requires kept { IsKeptSetting setting.now }
     requires short { neighbours ≤ limit_number ChainLimit }
     ensures test { AnswersScripts result (first_wrong (setting_of setting.now) neighbours
         (theorem_between theorem.now (protocol_of left.now) (protocol_of right.now))) }
     ensures first { IfOk result (λ trail. trail_first trail ≡ protocol_of left.now) }
     ensures links { IfOk result (λ trail. trail_links trail ≡ (chain_of_scripts (setting_of setting.now)
         (theorem_between theorem.now (protocol_of left.now) (protocol_of right.now))).links) }
-    ensures trail { IfOk result (λ trail. IsTrail (setting_of setting.now) trail) }
+    ensures within { IfOk result (λ trail. IsTrailWithin (length (setting_of setting.now).sig) trail) }
     ensures short { IfOk result (λ trail. neighbours + neighbour_count (trail_links trail) ≤ limit_number ChainLimit) }
 {
     let steps = theorem.left_steps.as_slice();
@@ -151,7 +169,7 @@ fn named(alloc: Global, theorem: &TheoremItem, trail: Trail) -> Result<Chain, No
     ensures right { IfOk result (λ chain. chain.right ≡ theorem.now.right) }
     ensures terms { IfOk result (λ chain. chain.terms ≡ trail.terms) }
     ensures marks { IfOk result (λ chain. chain.marks ≡ trail.marks) }
-    ensures hidden { IfOk result (λ chain. SameSet chain.hidden (hidden_in chain.terms)) }
+    ensures hidden { IfOk result (λ chain. SameSet chain.hidden (hidden_in_terms (map protocol_of chain.terms))) }
 {
     let hidden = hidden_in(alloc, trail.terms.as_slice())?;
     let name = theorem.name.copy(alloc)?;
@@ -181,13 +199,12 @@ pub fn check_theorem(
     ensures scripts { (left right : Found) →
         protocol_named book.now.document.now.items theorem.now.left ≡ Some left →
         protocol_named book.now.document.now.items theorem.now.right ≡ Some right →
-        AnswersTheorem result (setting_at book.now.document.now.sig left.interface) (neighbours_in book.now.chains)
+        AnswersTheorem result (setting_at book.now.document.now book.now.chains left.interface) (neighbours_in book.now.chains)
         (theorem_between theorem.now (protocol_of left.body) (protocol_of right.body)) }
     ensures name { IfOk result (λ chain. chain.name ≡ theorem.now.name) }
     ensures left { IfOk result (λ chain. chain.left ≡ theorem.now.left) }
     ensures right { IfOk result (λ chain. chain.right ≡ theorem.now.right) }
-    ensures within { IfOk result (λ chain. HasTermsWithin (length book.now.document.now.sig) chain) }
-    ensures hidden { IfOk result (λ chain. SameSet chain.hidden (hidden_in chain.terms)) }
+    ensures kept { IfOk result (λ chain. IsKept (length book.now.document.now.sig) chain) }
     ensures short { IfOk result (λ chain. neighbours_in book.now.chains
         + neighbour_count (chain_of chain).links ≤ limit_number ChainLimit) }
 {
@@ -197,10 +214,7 @@ pub fn check_theorem(
     let Some(right) = book.document.protocol(&theorem.right) else {
         unreachable!();
     };
-    let setting = Setting {
-        sig: &book.document.sig,
-        interface: &left.interface,
-    };
+    let setting = setting_with(book, &left.interface);
     let neighbours = neighbours_in(book.chains.as_slice());
     let trail = trail_between(
         alloc,

@@ -1,14 +1,15 @@
 //! Trails: the whole terms that one side has come through.
 
-ghost use Rattle.std.specs.Prelude.{◌≡◌, [], ◌∷◌, ◌++◌, All, IfOk, OnOk, suc, length};
+ghost use Rattle.std.specs.Prelude.{◌≡◌, ℕ, [], ◌∷◌, ◌++◌, All, IfOk, OnOk, suc, length};
 ghost use Rattle.ipdl_chain.specs.Chains.{turned_links};
-ghost use Rattle.ipdl_chain.specs.Views.{mark_of};
+ghost use Rattle.ipdl_chain.specs.Views.{IsMarkWithin, links_of, mark_of};
 ghost use Rattle.ipdl_script.specs.Fitting.{WholeFits};
 ghost use Rattle.ipdl_script.specs.Steps.{Setting};
-ghost use Rattle.ipdl_script.specs.Trails.{IsTrail, back_links, trail_end, trail_first, trail_links};
+ghost use Rattle.ipdl_script.specs.Trails.{IsTrail, IsTrailWithin, back_links, trail_end, trail_first, trail_links};
 ghost use Rattle.ipdl_term.specs.Views.{protocol_of};
+ghost use Rattle.ipdl_term.specs.Within.{IsProtocolWithin};
 
-use crate::marks::turned;
+use crate::adding_step::AddedTerms;
 use ipdl_base::{List, NoMemory};
 use ipdl_chain::Mark;
 use ipdl_term::{Proto, copy_proto};
@@ -39,8 +40,7 @@ impl Trail {
     // The term that it has come to.
     pub(crate) fn end(&self) -> &Proto
         requires { length self.now.terms ≡ suc (length self.now.marks) }
-        ensures end { protocol_of result.now ≡ trail_end self.now }
-        ensures fits { (x : Setting) → IsTrail x self.now → WholeFits x (protocol_of result.now) }
+        ensures { protocol_of result.now ≡ trail_end self.now }
     {
         &self.terms.as_slice()[self.marks.as_slice().len()]
     }
@@ -52,7 +52,8 @@ impl Trail {
         ensures first { OnOk result (trail_first self.new ≡ trail_first self.old) }
         ensures links { OnOk result (trail_links self.new
             ≡ trail_links self.old ++ record { mark = mark_of mark; term = protocol_of term } ∷ []) }
-        ensures trail { (x : Setting) → IsTrail x self.old → WholeFits x (protocol_of term) → OnOk result (IsTrail x self.new) }
+        ensures within { (symbols : ℕ) → IsTrailWithin symbols self.old → IsProtocolWithin symbols (protocol_of term) →
+            IsMarkWithin symbols mark → OnOk result (IsTrailWithin symbols self.new) }
     {
         self.terms.push(term)?;
         self.marks.push(mark)?;
@@ -60,20 +61,46 @@ impl Trail {
     }
 }
 
+// The trail that goes on to the terms in order, by their marks.
+pub(crate) fn extended(trail: Trail, added: AddedTerms) -> Result<Trail, NoMemory>
+    requires trail { length trail.terms ≡ suc (length trail.marks) }
+    requires added { length added.terms ≡ length added.marks }
+    ensures paired { IfOk result (λ longer. length longer.terms ≡ suc (length longer.marks)) }
+    ensures first { IfOk result (λ longer. trail_first longer ≡ trail_first trail) }
+    ensures links { IfOk result (λ longer. trail_links longer ≡ trail_links trail ++ links_of added.marks added.terms) }
+    ensures within { (symbols : ℕ) → IsTrailWithin symbols trail →
+        All (λ term. IsProtocolWithin symbols (protocol_of term)) added.terms →
+        All (λ mark. IsMarkWithin symbols mark) added.marks →
+        IfOk result (λ longer. IsTrailWithin symbols longer) }
+{
+    let mut terms = trail.terms.into_vec();
+    terms.append(&mut added.terms.into_vec())?;
+    let mut marks = trail.marks.into_vec();
+    marks.append(&mut added.marks.into_vec())?;
+    Ok(Trail {
+        terms: List::from_vec(terms),
+        marks: List::from_vec(marks),
+    })
+}
+
+// ---- the way back
+
 // Goes on from the last of the terms back to the first one, by the marks turned round.
 fn push_back(trail: &mut Trail, mut terms: Vec<Proto>, mut marks: Vec<Mark>) -> Result<(), NoMemory>
     requires trail { length trail.old.terms ≡ suc (length trail.old.marks) }
     requires paired { length terms.items ≡ length marks.items }
+    ensures paired { OnOk result (length trail.new.terms ≡ suc (length trail.new.marks)) }
     ensures first { OnOk result (trail_first trail.new ≡ trail_first trail.old) }
     ensures links { OnOk result (trail_links trail.new ≡ trail_links trail.old ++ back_links marks.items terms.items) }
-    ensures trail { (x : Setting) → IsTrail x trail.old →
-        All (λ term. WholeFits x (protocol_of term)) terms.items → OnOk result (IsTrail x trail.new) }
+    ensures within { (symbols : ℕ) → IsTrailWithin symbols trail.old →
+        All (λ term. IsProtocolWithin symbols (protocol_of term)) terms.items →
+        All (λ mark. IsMarkWithin symbols mark) marks.items → OnOk result (IsTrailWithin symbols trail.new) }
 {
     while let Some(mark) = marks.pop() {
         let Some(term) = terms.pop() else {
             unreachable!();
         };
-        trail.push(term, turned(mark))?;
+        trail.push(term, mark.turned())?;
     }
     Ok(())
 }
@@ -85,8 +112,8 @@ pub(crate) fn turned_back(lefts: Trail, rights: Trail) -> Result<Trail, NoMemory
     ensures first { IfOk result (λ trail. trail_first trail ≡ trail_first lefts) }
     ensures links { IfOk result (λ trail. trail_links trail
         ≡ trail_links lefts ++ turned_links (trail_first rights) (trail_links rights)) }
-    ensures trail { (x : Setting) → IsTrail x lefts → IsTrail x rights →
-        IfOk result (λ trail. IsTrail x trail) }
+    ensures within { (symbols : ℕ) → IsTrailWithin symbols lefts → IsTrailWithin symbols rights →
+        IfOk result (λ trail. IsTrailWithin symbols trail) }
 {
     let Trail { terms, marks } = rights;
     let mut terms = terms.into_vec();

@@ -1,7 +1,7 @@
 //! Chains: their counts, and their text.
 
 ghost use Rattle.std.specs.Prelude.{◌≡◌, All, IfOk, length};
-ghost use Rattle.ipdl_chain.specs.Views.{HasOneTermMore, HasTermsWithin};
+ghost use Rattle.ipdl_chain.specs.Views.{HasOneTermMore, IsMarkWithin, IsWithin};
 ghost use Rattle.ipdl_term.specs.Views.{protocol_of};
 ghost use Rattle.ipdl_term.specs.Within.{IsProtocolWithin};
 
@@ -45,7 +45,9 @@ fn terms(alloc: Global) -> Result<List<Proto>, NoMemory>
     Ok(terms)
 }
 
-fn mark(alloc: Global, dir: Dir, word: &str, place: &[u32]) -> Result<Mark, NoMemory> {
+fn mark(alloc: Global, dir: Dir, word: &str, place: &[u32]) -> Result<Mark, NoMemory>
+    ensures { IfOk result (λ mark. IsMarkWithin 0 mark) }
+{
     let path = path(alloc, place)?;
     Ok(Mark::ByRule {
         dir,
@@ -55,7 +57,8 @@ fn mark(alloc: Global, dir: Dir, word: &str, place: &[u32]) -> Result<Mark, NoMe
 }
 
 fn marks(alloc: Global) -> Result<List<Mark>, NoMemory>
-    ensures { IfOk result (λ marks. length marks ≡ 2) }
+    ensures count { IfOk result (λ marks. length marks ≡ 2) }
+    ensures within { IfOk result (λ marks. All (λ mark. IsMarkWithin 0 mark) marks) }
 {
     let mut marks = List::empty(alloc);
     marks.push(mark(alloc, Dir::Lr, "comm", &[])?)?;
@@ -65,7 +68,7 @@ fn marks(alloc: Global) -> Result<List<Mark>, NoMemory>
 
 fn chain(alloc: Global) -> Result<Chain, NoMemory>
     ensures paired { IfOk result (λ chain. HasOneTermMore chain) }
-    ensures within { IfOk result (λ chain. HasTermsWithin 0 chain) }
+    ensures within { IfOk result (λ chain. IsWithin 0 chain) }
 {
     Ok(Chain {
         name: name(alloc, "t")?,
@@ -103,7 +106,7 @@ fn is_written(mut text: Vec<u8>) -> Option<bool> {
 // The chain's text: its terms have no symbols, and nor has the document.
 fn text(alloc: Global, document: &Document, chain: &Chain) -> Option<Vec<u8>>
     requires paired { HasOneTermMore chain.now }
-    requires within { HasTermsWithin 0 chain.now }
+    requires within { IsWithin 0 chain.now }
 {
     match document.sig.count() {
         0 => chain_text(alloc, document, chain).ok(),

@@ -41,16 +41,19 @@ built_change x there depth (plain place rule) old new is =
     sym (is_built_rule-settled depth rule) ∙ built_rule x.sig there (settled_rule depth rule) old new is
 built_change x there depth (rev place rule term) old new is =
     sym (is_built_rule-settled depth rule) ∙ built_rule x.sig there (settled_rule depth rule) new old is.2
-built_change x there depth (invoke place name direction pairs) old new is = absurd is
+built_change x there depth (invoke place name direction pairs) old new is = refl
 
 built_step : (x : Setting) (before : Protocol) (step : Step) (after : Protocol) → IsStep x before step after → is_built_step step ≡ true
-built_step x before step after is =
-    built_change x (around_step x before step) (depth_at x before step) step is.old is.new is.change
+built_step x before (plain place rule) after is =
+    built_change x (around_step x before (plain place rule)) (depth_at x before (plain place rule)) (plain place rule) is.old is.new is.change
+built_step x before (rev place rule term) after is =
+    built_change x (around_step x before (rev place rule term)) (depth_at x before (rev place rule term)) (rev place rule term) is.old is.new is.change
+built_step x before (invoke place name direction pairs) after is = refl
 
 built_steps : (x : Setting) (so_far : ℕ) (before : Protocol) (steps : List Step) (links : List Link) → IsScript x so_far before steps links → are_built_steps steps ≡ true
 built_steps x so_far before [] links is = refl
 built_steps x so_far before (step ∷ steps) links is =
-    ap₂ ◌&&◌ (built_step x before step is.after is.stands) (built_steps x (count_after so_far step is.after) is.after steps is.later is.rest)
+    ap₂ ◌&&◌ (built_step x before step is.after is.stands) (built_steps x (count_after x so_far before step is.after) is.after steps is.later is.rest)
 
 pub built_scripts : (x : Setting) (so_far : ℕ) (t : Theorem) (chain : Chain) → IsChain x so_far t chain → (are_built_steps t.lefts && are_built_steps t.rights) ≡ true
 built_scripts x so_far t chain is =

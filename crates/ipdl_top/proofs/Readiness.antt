@@ -1,7 +1,8 @@
 -- The theorems of a document that is spelled within the limits and typed are ready to be checked.
 use Rattle.std.proofs.Common.{◌≡◌, ℕ, zero, suc, ◌≤◌, List, [], ◌∷◌, map, length, Option, Some, None, refl, sym, ap, subst, ◌∙◌}
-use Rattle.std.specs.Prelude.{option_map, slice_get}
+use Rattle.std.specs.Prelude.{◌++◌, All, option_map, slice_get}
 use Rattle.std.specs.List.{AllByRecursion}
+use Rattle.std.proofs.lemmas.List.{length-map}
 use Rattle.std.proofs.lemmas.List.Elements.{All-from_recursion}
 use Rattle.std.proofs.lemmas.Option.{same_Some, slice_get-map}
 use Rattle.ipdl_base.specs.Limits.{limit_number}
@@ -21,17 +22,21 @@ use Rattle.ipdl_forms.specs.declared.document.ProtocolItem.{ProtocolItem}
 use Rattle.ipdl_forms.specs.declared.document.TheoremItem.{TheoremItem}
 use Rattle.ipdl_script.proofs.Fits.{argument_has_room, term_has_room}
 use Rattle.ipdl_script.specs.Fitting.{StepFits, AreArgumentsWithin, IsTermWithin}
-use Rattle.ipdl_script.specs.Ready.{setting_at, neighbours_in, HasFitSides, IsReady}
+use Rattle.ipdl_script.specs.Ready.{neighbours_in, IsReady}
 use Rattle.ipdl_script.specs.declared.theorem.Book.{Book}
 use Rattle.ipdl_sig.specs.declared.symbol.Symbol.{Symbol}
 use Rattle.ipdl_term.specs.Rules.{Rule, RuleKind, at_reactions, at_expressions, at_protocols, row_of, Argument, expression_argument, symbol_argument, number_argument, name_argument, path_argument, width_argument, rule_arguments}
 use Rattle.ipdl_term.specs.Steps.{Step, plain, rev, invoke, step_of}
 use Rattle.ipdl_term.specs.Terms.{Expression, Term, protocol_term, reaction_term, expression_term}
 use Rattle.ipdl_term.specs.Views.{protocol_of}
-use Rattle.ipdl_term.specs.Within.{IsExpressionWithin, IsReactionWithin}
+use Rattle.ipdl_term.proofs.WithinLemmas.{IsProtocolWithin-typed}
+use Rattle.ipdl_term.specs.Typing.{scope_of}
+use Rattle.ipdl_term.specs.Within.{IsExpressionWithin, IsReactionWithin, IsProtocolWithin}
 use Rattle.ipdl_term.specs.declared.step.Step.{Step as HeldStep}
 use Rattle.ipdl_tree.specs.Trees.{Located, Forest, no_trees, tree}
-use Rattle.ipdl_top.proofs.Fitting.{AreFitNetworks, IsFitNetwork-named, AreFitNetworks-spelled, HasInterface-across}
+use Rattle.ipdl_typing.specs.Signatures.{signature_of, symbol_of}
+use Rattle.ipdl_uses.specs.Views.{IsKept}
+use Rattle.ipdl_top.proofs.Fitting.{IsFitNetwork, AreFitNetworks, IsFitNetwork-named, AreFitNetworks-spelled, HasInterface-across}
 use Rattle.ipdl_top.proofs.Named.{IsThere, HasSides, HaveSides, HaveSides-spelled}
 use Rattle.ipdl_forms.proofs.Networks.{network_named-found}
 use Rattle.ipdl_top.proofs.Spelled.{IsExpressionWithin-spelled, IsReactionWithin-spelled, IsProtocolWithin-spelled}
@@ -138,9 +143,17 @@ held_steps (step ∷ steps) fit = (fit.0, held_steps steps fit.1)
 same_ports : (from to : Option Network) (l r : Network) → from ≡ Some l → to ≡ Some r → HaveSamePorts from to → HaveSamePorts (Some l) (Some r)
 same_ports from to l r e f same = subst (λ (x : Option Network). HaveSamePorts (Some l) x) f (subst (λ (x : Option Network). HaveSamePorts x to) e same)
 
-theorem_ready : (book : Book) (symbols : List Symbol) (items : List Item) (theorem : TheoremItem) → book.document.now.sig ≡ symbols → book.document.now.items ≡ items → AreFitNetworks symbols (map (entry_of symbols) items) → IsFitItem symbols (map (entry_of symbols) items) (entry_of symbols (I.Theorem theorem)) → neighbours_in book.chains ≤ limit_number ChainLimit → IsReady book theorem
+-- the body of a network that fits may be printed
+body_within : (symbols : List Symbol) (n : Network) → IsFitNetwork symbols n → IsProtocolWithin (length symbols) n.body
+body_within symbols n fit =
+    subst (λ count. IsProtocolWithin count n.body) (length-map symbols symbol_of)
+    (IsProtocolWithin-typed (signature_of symbols) (scope_of (n.interface.inputs ++ n.interface.outputs)) n.body fit.typed.typed)
+
+theorem_ready : (book : Book) (theorem : TheoremItem) → AreFitNetworks book.document.now.sig (document_of book.document.now).entries → IsFitItem book.document.now.sig (document_of book.document.now).entries (entry_of book.document.now.sig (I.Theorem theorem)) → neighbours_in book.chains ≤ limit_number ChainLimit → All (IsKept (length book.document.now.sig)) book.chains → IsReady book theorem
 unfolding HasFitSteps
-theorem_ready book symbols items theorem is_sig is_items fit known short =
+theorem_ready book theorem fit known short kept =
+    let symbols = book.document.now.sig in
+    let items = book.document.now.items in
     let entries = map (entry_of symbols) items in
     let l = protocol_there symbols items theorem.left known.sides.0 in
     let r = protocol_there symbols items theorem.right known.sides.1 in
@@ -150,29 +163,40 @@ theorem_ready book symbols items theorem is_sig is_items fit known short =
     record {
       left = l.0;
       right = r.0;
-      has_left = ap (λ xs. protocol_named xs theorem.left) is_items ∙ l.1;
-      has_right = ap (λ xs. protocol_named xs theorem.right) is_items ∙ r.1;
-      sides = subst (λ sig. HasFitSides (setting_at sig l.0.interface) theorem (protocol_of l.0.body) (protocol_of r.0.body)) (sym is_sig)
-          (record {
-            left_limits = fit_left.limits;
-            right_limits = fit_right.limits;
-            left_typed = fit_left.typed;
-            right_typed = HasInterface-across symbols (network_of l.0) (network_of r.0) fit_left fit_right same;
-            left_steps = All-from_recursion (λ step. StepFits (step_of step)) theorem.left_steps (held_steps theorem.left_steps known.steps.0);
-            right_steps = All-from_recursion (λ step. StepFits (step_of step)) theorem.right_steps (held_steps theorem.right_steps known.steps.1);
-          });
+      has_left = l.1;
+      has_right = r.1;
+      sides = record {
+        left_limits = fit_left.limits;
+        right_limits = fit_right.limits;
+        left_typed = fit_left.typed;
+        right_typed = HasInterface-across symbols (network_of l.0) (network_of r.0) fit_left fit_right same;
+        left_steps = All-from_recursion (λ step. StepFits (step_of step)) theorem.left_steps (held_steps theorem.left_steps known.steps.0);
+        right_steps = All-from_recursion (λ step. StepFits (step_of step)) theorem.right_steps (held_steps theorem.right_steps known.steps.1);
+      };
       short = short;
+      bodies = λ name p e.
+          body_within symbols (network_of p)
+          (IsFitNetwork-named symbols entries name fit (network_of p) (network_named-found symbols items name (Some p) (sym e)));
+      kept = kept;
     }
 
+-- what is known of a document whose theorem is checked
+abbrev IsFitDocument : Held → TheoremItem → Type 0
+IsFitDocument document theorem =
+    AreFitNetworks document.sig (document_of document).entries
+    × IsFitItem document.sig (document_of document).entries (entry_of document.sig (I.Theorem theorem))
+
 -- the item of an index may be checked
-pub IsReadyItem-there : (document : Held) (t : Located) (book : Book) (index : ℕ) (item : Item) → SpellsDocument (document_of document) t → IsWithinLimits (document_of document) → IsTypedDocument (document_of document) → book.document.now ≡ document → neighbours_in book.chains ≤ limit_number ChainLimit → slice_get document.items index ≡ Some item → IsReadyItem book item
-IsReadyItem-there document t book index (I.Symbol n) spelled within typed is short there = tt
-IsReadyItem-there document t book index (I.Protocol p) spelled within typed is short there = tt
-IsReadyItem-there document t book index (I.Assumption a) spelled within typed is short there = tt
-IsReadyItem-there document t book index (I.Theorem theorem) spelled within typed is short there =
+pub IsReadyItem-there : (document : Held) (t : Located) (book : Book) (index : ℕ) (item : Item) → SpellsDocument (document_of document) t → IsWithinLimits (document_of document) → IsTypedDocument (document_of document) → book.document.now ≡ document → neighbours_in book.chains ≤ limit_number ChainLimit → All (IsKept (length book.document.now.sig)) book.chains → slice_get document.items index ≡ Some item → IsReadyItem book item
+IsReadyItem-there document t book index (I.Symbol n) spelled within typed is short kept there = tt
+IsReadyItem-there document t book index (I.Protocol p) spelled within typed is short kept there = tt
+IsReadyItem-there document t book index (I.Assumption a) spelled within typed is short kept there = tt
+IsReadyItem-there document t book index (I.Theorem theorem) spelled within typed is short kept there =
     let d = document_of document in
-    theorem_ready book document.sig document.items theorem (ap (λ (h : Held). h.sig) is) (ap (λ (h : Held). h.items) is)
-    (AreFitNetworks-spelled d t spelled within typed)
-    (item_fits d.symbols d.entries nothing_earlier d.entries _ spelled.3 within.1 (HaveSides-spelled d t spelled) typed index (entry_of document.sig (I.Theorem theorem))
-    (slice_get-map (entry_of document.sig) document.items index ∙ ap (option_map (entry_of document.sig)) there))
-    short
+    let known : IsFitDocument document theorem = (
+      AreFitNetworks-spelled d t spelled within typed,
+      item_fits d.symbols d.entries nothing_earlier d.entries _ spelled.3 within.1 (HaveSides-spelled d t spelled) typed index (entry_of document.sig (I.Theorem theorem))
+          (slice_get-map (entry_of document.sig) document.items index ∙ ap (option_map (entry_of document.sig)) there),
+    ) in
+    let here : IsFitDocument book.document.now theorem = subst (λ (h : Held). IsFitDocument h theorem) (sym is) known in
+    theorem_ready book theorem here.0 here.1 short kept

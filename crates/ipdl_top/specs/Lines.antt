@@ -83,6 +83,10 @@ step_cause_text symbols (S.side_fails n) = spaced (codes "Side" ∷ decimal n �
 step_cause_text symbols S.not_result = codes "NotResult"
 step_cause_text symbols (S.ill_typed f) = spaced (codes "IllTyped" ∷ place_text f.path ∷ cause_text f.cause ∷ [])
 step_cause_text symbols (S.untrue refusal) = truth_cause_text symbols refusal
+step_cause_text symbols (S.no_channel c) = spaced (codes "NoChannel" ∷ c ∷ [])
+step_cause_text symbols (S.not_injective c d) = spaced (codes "NotInjective" ∷ c ∷ d ∷ [])
+step_cause_text symbols (S.captured c) = spaced (codes "Capture" ∷ c ∷ [])
+step_cause_text symbols (S.no_port c) = spaced (codes "NoPort" ∷ c ∷ [])
 step_cause_text symbols (S.over limit) = []
 
 -- ---- where a limit is passed

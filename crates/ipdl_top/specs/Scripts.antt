@@ -8,12 +8,13 @@ use Rattle.ipdl_chain.specs.ChainTexts.{assumptions_in}
 use Rattle.ipdl_forms.specs.Documents.{Document, Entry, symbol_entry, protocol_entry, assumption_entry, theorem_entry}
 use Rattle.ipdl_forms.specs.Lists.{operand}
 use Rattle.ipdl_printing.specs.Texts.{spaced}
+use Rattle.ipdl_script.specs.Known.{Proved}
 use Rattle.ipdl_script.specs.Scripts.{IsChain, Side, left_side, right_side, Wrong, wrong_step, wrong_ends, first_wrong}
 use Rattle.ipdl_sig.specs.declared.symbol.Symbol.{Symbol}
 use Rattle.ipdl_term.specs.Rules.{Rule, rule_word, tidy, lin, shape}
 use Rattle.ipdl_term.specs.Steps.{Step, plain, rev, invoke}
 use Rattle.ipdl_tree.specs.Trees.{Located, offset_of}
-use Rattle.ipdl_top.specs.Chains.{Claim, claim_of, claim_chain, item_neighbours, items_neighbours, claim_text, items_text, chains_text}
+use Rattle.ipdl_top.specs.Chains.{Claim, claim_of, claim_chain, theorems_with, theorems_before, item_neighbours, items_neighbours, claim_text, items_text, chains_text}
 use Rattle.ipdl_top.specs.Refusals.{not_built, step_refused, ends_differ, long_chains, first_refusal}
 use Rattle.ipdl_top.specs.Statuses.{Refusal}
 
@@ -26,11 +27,11 @@ is_built_rule (lin e) = false
 is_built_rule shape = false
 is_built_rule _ = true
 
--- a step by a rule that is built, forward or back
+-- a step by a rule that is built, forward or back, or a use
 abbrev pub is_built_step : Step → Bool
 is_built_step (plain place rule) = is_built_rule rule
 is_built_step (rev place rule term) = is_built_rule rule
-is_built_step (invoke place name direction pairs) = false
+is_built_step (invoke place name direction pairs) = true
 
 abbrev pub are_built_steps : List Step → Bool
 are_built_steps steps = list_all is_built_step steps
@@ -48,7 +49,7 @@ has_built_scripts (assumption_entry name left right) = true
 abbrev pub rule_text : Step → List ℕ
 rule_text (plain place rule) = rule_word rule
 rule_text (rev place rule term) = spaced (codes "rev" ∷ rule_word rule ∷ [])
-rule_text (invoke place name direction pairs) = codes "use"
+rule_text (invoke place name direction pairs) = spaced (codes "use" ∷ name ∷ [])
 
 abbrev pub rule_text_in : Option Step → List ℕ
 rule_text_in None = []
@@ -84,11 +85,11 @@ claim_refusal symbols assumptions neighbours written (Some claim) =
     (first_wrong claim.setting neighbours claim.theorem))
     (length_refusal claim.name (written + length (claim_text symbols assumptions (Some claim))))
 
--- The first test of a theorem that fails. Its item begins at an offset.
-abbrev pub theorem_refusal : List Symbol → List Entry → (offset neighbours written : ℕ) → Entry → Option Refusal
-theorem_refusal symbols entries offset neighbours written item =
+-- The first test of a theorem that fails, which may use these theorems. Its item begins at an offset.
+abbrev pub theorem_refusal : List Symbol → List Entry → List Proved → (offset neighbours written : ℕ) → Entry → Option Refusal
+theorem_refusal symbols entries theorems offset neighbours written item =
     if has_built_scripts item
-    then claim_refusal symbols (assumptions_in entries) neighbours written (claim_of symbols entries item)
+    then claim_refusal symbols (assumptions_in entries) neighbours written (claim_of symbols entries theorems item)
     else Some (not_built offset)
 
 -- where the item of an index begins in the tree of its document, which has the version before all items
@@ -98,9 +99,9 @@ item_offset t index = offset_of (operand (suc index) t)
 -- each theorem is judged by its scripts, and by the chains before it
 abbrev pub judged_by_script : Document → Located → ℕ → Entry → Option Refusal
 judged_by_script d t index item =
-    theorem_refusal d.symbols d.entries (item_offset t index)
-    (items_neighbours d.symbols d.entries (take index d.entries))
-    (length (items_text d.symbols d.entries (take index d.entries))) item
+    theorem_refusal d.symbols d.entries (theorems_before d.symbols d.entries index) (item_offset t index)
+    (items_neighbours d.symbols d.entries [] (take index d.entries))
+    (length (items_text d.symbols d.entries [] (take index d.entries))) item
 
 -- that of the first theorem that is refused
 abbrev pub script_refusal : Document → Located → Option Refusal
@@ -113,23 +114,24 @@ abbrev pub HasChain : (neighbours : ℕ) → Option Claim → Type 0
 HasChain neighbours None = ⊥
 HasChain neighbours (Some claim) = IsChain claim.setting neighbours claim.theorem (claim_chain claim)
 
--- a theorem is proved by its scripts
-abbrev pub IsProvedItem : List Symbol → List Entry → (neighbours : ℕ) → Entry → Type 0
-IsProvedItem symbols entries neighbours (theorem_entry name left right lefts rights) =
-    HasChain neighbours (claim_of symbols entries (theorem_entry name left right lefts rights))
-IsProvedItem symbols entries neighbours (symbol_entry n s) = Unit {0}
-IsProvedItem symbols entries neighbours (protocol_entry name interface body) = Unit {0}
-IsProvedItem symbols entries neighbours (assumption_entry name left right) = Unit {0}
+-- a theorem is proved by its scripts, which may use these theorems
+abbrev pub IsProvedItem : List Symbol → List Entry → List Proved → (neighbours : ℕ) → Entry → Type 0
+IsProvedItem symbols entries theorems neighbours (theorem_entry name left right lefts rights) =
+    HasChain neighbours (claim_of symbols entries theorems (theorem_entry name left right lefts rights))
+IsProvedItem symbols entries theorems neighbours (symbol_entry n s) = Unit {0}
+IsProvedItem symbols entries theorems neighbours (protocol_entry name interface body) = Unit {0}
+IsProvedItem symbols entries theorems neighbours (assumption_entry name left right) = Unit {0}
 
-abbrev pub AreProved : List Symbol → List Entry → (neighbours : ℕ) → List Entry → Type 0
-AreProved symbols entries neighbours [] = Unit {0}
-AreProved symbols entries neighbours (item ∷ items) =
-    IsProvedItem symbols entries neighbours item
-    × AreProved symbols entries (neighbours + item_neighbours symbols entries item) items
+abbrev pub AreProved : List Symbol → List Entry → List Proved → (neighbours : ℕ) → List Entry → Type 0
+AreProved symbols entries theorems neighbours [] = Unit {0}
+AreProved symbols entries theorems neighbours (item ∷ items) =
+    IsProvedItem symbols entries theorems neighbours item
+    × AreProved symbols entries (theorems_with symbols entries theorems item)
+    (neighbours + item_neighbours symbols entries theorems item) items
 
--- each theorem is proved by its scripts
+-- each theorem is proved by its scripts, which may use those before it
 abbrev pub IsProvedDocument : Document → Type 0
-IsProvedDocument d = AreProved d.symbols d.entries 0 d.entries
+IsProvedDocument d = AreProved d.symbols d.entries [] 0 d.entries
 
 -- the chains are not longer than is allowed
 abbrev pub HasShortChains : Document → Type 0

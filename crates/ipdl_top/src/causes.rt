@@ -7,7 +7,7 @@ ghost use Rattle.ipdl_script.specs.Views.{refusal_of};
 ghost use Rattle.ipdl_top.specs.Lines.{after_blanks, cause_text, step_cause_text, truth_cause_text, value_text};
 ghost use Rattle.ipdl_typing.specs.Answers.{cause_of, failure_of};
 
-use ipdl_base::{Bits, NoMemory};
+use ipdl_base::{Bits, Name, NoMemory};
 use ipdl_printing::push_place;
 use ipdl_script::Cause;
 use ipdl_sig::Sig;
@@ -92,6 +92,28 @@ fn difference_text(alloc: Global, valuation: &[(u32, Bits)]) -> Result<Vec<u8>, 
     Ok(text)
 }
 
+// ---- of uses
+
+// A word and a channel.
+fn channel_text(alloc: Global, word: &str, channel: &Name) -> Result<String, NoMemory>
+    ensures { IfOk result (λ text. string_bytes text ≡ spaced (word.now ∷ channel.now ∷ [])) }
+{
+    let mut text = String::new(alloc);
+    text.push_str(word)?;
+    text.push_str(" ")?;
+    text.push_str(channel.text())?;
+    Ok(text)
+}
+
+// Two channels get one name.
+fn clash_text(alloc: Global, first: &Name, second: &Name) -> Result<String, NoMemory>
+    ensures { IfOk result (λ text. string_bytes text ≡ spaced (codes "NotInjective" ∷ first.now ∷ second.now ∷ [])) }
+{
+    let mut text = String::new(alloc);
+    write!(text, "NotInjective {} {}", first.text(), second.text())?;
+    Ok(text)
+}
+
 // ---- of steps
 
 // Why a step is wrong.
@@ -109,5 +131,9 @@ pub(crate) fn step_cause_text(alloc: Global, sig: &Sig, cause: &Cause) -> Result
         Cause::Large { bits } => format!(in alloc; "Large {bits}")?.into_bytes(),
         Cause::TooWide { bits } => format!(in alloc; "TooWide {bits}")?.into_bytes(),
         Cause::NotSame { valuation } => difference_text(alloc, valuation.as_slice())?,
+        Cause::NoChannel { name } => channel_text(alloc, "NoChannel", name)?.into_bytes(),
+        Cause::NotInjective { first, second } => clash_text(alloc, first, second)?.into_bytes(),
+        Cause::Capture { name } => channel_text(alloc, "Capture", name)?.into_bytes(),
+        Cause::NoPort { name } => channel_text(alloc, "NoPort", name)?.into_bytes(),
     })
 }

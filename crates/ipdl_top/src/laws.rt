@@ -11,7 +11,7 @@ ghost use Rattle.ipdl_forms.specs.Limits.{IsWithinLimits};
 ghost use Rattle.ipdl_top.specs.Chains.{proved_text};
 ghost use Rattle.ipdl_top.specs.Examples.{worked_document, worked_tree};
 ghost use Rattle.ipdl_top.specs.Lines.{ends_line};
-ghost use Rattle.ipdl_top.specs.Meanings.{HasEqualNeighbours, HasEqualSides, IsSoOfTheorems};
+ghost use Rattle.ipdl_top.specs.Meanings.{HasEqualSidesIfExact, HasEqualSidesIfTrue, HasMeantNeighbours, IsSoOfTheorems};
 ghost use Rattle.ipdl_top.specs.Refusals.{IsFirstRefused, wrong_step};
 ghost use Rattle.ipdl_top.specs.Replies.{IsReply};
 ghost use Rattle.ipdl_top.specs.Requests.{Request, check, AskFor, request_in};
@@ -47,13 +47,17 @@ pub fn the_first_theorem_is_refused()
     ensures none { (d : Document) (t : Located) → (script_refusal d t ≡ None) ↔ ((index : ℕ) (item : Entry) → slice_get d.entries index ≡ Some item → judged_by_script d t index item ≡ None) }
 {}
 
-/// In a document whose theorems are accepted, each two neighbours of the chain of a theorem are equal
-/// at the interface of its left protocol, and so are its two protocols.
+/// In a document whose theorems are accepted, each two neighbours of the chain of a theorem are what
+/// their mark says: equal at the interface of its left protocol, or one context around the sides of
+/// an assumption. Its two protocols are equal where it counts no assumption, and where those that it
+/// counts are true.
 pub fn chains_mean()
     ensures neighbours { (bytes : List ℕ) (t : Located) (d : Document) (text : List ℕ) → IsAnswered check bytes t d text →
-        IsSoOfTheorems HasEqualNeighbours d }
+        IsSoOfTheorems HasMeantNeighbours d }
+    ensures exact { (bytes : List ℕ) (t : Located) (d : Document) (text : List ℕ) → IsAnswered check bytes t d text →
+        IsSoOfTheorems HasEqualSidesIfExact d }
     ensures sides { (bytes : List ℕ) (t : Located) (d : Document) (text : List ℕ) → IsAnswered check bytes t d text →
-        IsSoOfTheorems HasEqualSides d }
+        IsSoOfTheorems HasEqualSidesIfTrue d }
 {}
 
 /// The worked example, computed from the definitions.

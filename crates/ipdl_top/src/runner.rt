@@ -8,7 +8,7 @@ ghost use Rattle.ipdl_forms.specs.Documents.{Document};
 ghost use Rattle.ipdl_top.specs.Replies.{usage_reply, fault_reply};
 ghost use Rattle.ipdl_top.specs.Requests.{Request, AskFor, AreOfNoForm, ReadsNothing};
 ghost use Rattle.ipdl_top.specs.Runs.{IsVerdict, IsOfWholeSource, IsFinished, IsReplied, IsRepliedFront, IsAnswered, IsAccepted, IsChecked};
-ghost use Rattle.ipdl_top.specs.Meanings.{HasEqualNeighbours, HasEqualSides};
+ghost use Rattle.ipdl_top.specs.Meanings.{HasEqualSidesIfExact, HasEqualSidesIfTrue, HasMeantNeighbours};
 ghost use Rattle.ipdl_top.specs.Transfers.{GaveSome, GaveTooMany, Took, TookFront};
 
 use crate::answering::reply_to;
@@ -62,13 +62,18 @@ pub fn run<S: Source, K: Sink>(
         DidNotRise (S.faults source.old) (S.faults source.new) → DidNotRise (K.faults sink.old) (K.faults sink.new) →
         result ≢ Status.Memory → (result ≡ Status.Accepted) × Took (K.taken sink.old) (K.taken sink.new) text }
 
-    // What `check` accepts is true: each two neighbours of each chain are equal at the interface of
-    // the theorem's left protocol, under every interpretation of the symbols and in every closing
-    // context, and so are the two protocols of each theorem.
-    ensures neighbours_are_equal { result ≡ Status.Accepted →
-        IsChecked HasEqualNeighbours (map string_bytes words.now) (S.left source.old) (K.taken sink.old) (K.taken sink.new) }
+    // What `check` accepts is true, under every interpretation of the symbols and in every closing
+    // context. Each two neighbours of each chain, by a rule or by a theorem, are equal at the
+    // interface of the theorem's left protocol; those by an assumption are the printed context around
+    // its two sides, in the printed names and direction.
+    ensures neighbours_mean { result ≡ Status.Accepted →
+        IsChecked HasMeantNeighbours (map string_bytes words.now) (S.left source.old) (K.taken sink.old) (K.taken sink.new) }
+    // The two protocols of a theorem that counts no assumption are equal.
+    ensures exact_sides_are_equal { result ≡ Status.Accepted →
+        IsChecked HasEqualSidesIfExact (map string_bytes words.now) (S.left source.old) (K.taken sink.old) (K.taken sink.new) }
+    // And where the two sides of each assumption that it counts are equal, so are its two protocols.
     ensures sides_are_equal { result ≡ Status.Accepted →
-        IsChecked HasEqualSides (map string_bytes words.now) (S.left source.old) (K.taken sink.old) (K.taken sink.new) }
+        IsChecked HasEqualSidesIfTrue (map string_bytes words.now) (S.left source.old) (K.taken sink.old) (K.taken sink.new) }
 
     // At words of no form no memory is wanted, and nothing is read.
     ensures usage { AreOfNoForm (map string_bytes words.now) → IsFinished Status.Usage result (K.taken sink.old) (K.taken sink.new)

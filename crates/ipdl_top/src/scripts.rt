@@ -1,9 +1,10 @@
 //! Theorems by their scripts: which ones are built, and the chains of those that are proved.
 
-ghost use Rattle.std.specs.Prelude.{◌≡◌, ◌+◌, ◌≤◌, ◌++◌, ◌&&◌, IfOk, OnOk, map, length};
+ghost use Rattle.std.specs.Prelude.{◌≡◌, ◌+◌, ◌≤◌, ◌++◌, ◌&&◌, All, IfOk, OnOk, map, length};
 ghost use Rattle.ipdl_base.specs.Limits.{limit_number};
 ghost use Rattle.ipdl_chain.specs.ChainTexts.{assumptions_in};
 ghost use Rattle.ipdl_script.specs.Ready.{IsReady, neighbours_in};
+ghost use Rattle.ipdl_script.specs.Views.{proved_of};
 ghost use Rattle.ipdl_term.specs.Steps.{rule_of, step_of};
 ghost use Rattle.ipdl_tree.specs.Trees.{offset_of};
 ghost use Rattle.ipdl_tree.specs.Views.{located, all_located};
@@ -11,11 +12,12 @@ ghost use Rattle.ipdl_forms.specs.Documents.{entry_of, document_of};
 ghost use Rattle.ipdl_forms.specs.Items.{SpellsDocument};
 ghost use Rattle.ipdl_forms.specs.Limits.{IsWithinLimits};
 ghost use Rattle.ipdl_forms.specs.Lists.{tree_at};
-ghost use Rattle.ipdl_top.specs.Chains.{claim_neighbours, claim_text, item_neighbours, item_text, theorem_count, proved_text};
+ghost use Rattle.ipdl_top.specs.Chains.{claim_neighbours, claim_text, item_neighbours, item_text, proved_by, proved_text, theorem_count, theorems_with};
 ghost use Rattle.ipdl_top.specs.Books.{held_claim, IsReadyItem};
 ghost use Rattle.ipdl_top.specs.Scripts.{is_built_rule, is_built_step, are_built_steps, claim_refusal, theorem_refusal, item_offset, script_refusal};
 ghost use Rattle.ipdl_top.specs.Told.{Tests};
 ghost use Rattle.ipdl_top.specs.Typed.{IsTypedDocument};
+ghost use Rattle.ipdl_uses.specs.Views.{IsKept};
 
 use crate::refusal::{Refusal, Stop, over_at_theorem};
 use crate::wrong::script_stop;
@@ -43,7 +45,7 @@ fn is_built_step(step: &Step) -> bool
 {
     match step {
         Step::Plain { rule, .. } | Step::Rev { rule, .. } => is_built_rule(rule),
-        Step::Invoke { .. } => false,
+        Step::Invoke { .. } => true,
     }
 }
 
@@ -95,12 +97,14 @@ fn add_chain(
 ) -> Result<u64, Stop>
     requires { IsReady book.old theorem.now }
     ensures tests { Tests result (claim_refusal book.old.document.now.sig (assumptions_in (document_of book.old.document.now).entries)
-        (neighbours_in book.old.chains) (length text.old.items) (held_claim book.old.document.now theorem.now)) }
+        (neighbours_in book.old.chains) (length text.old.items) (held_claim book.old theorem.now)) }
     ensures text { OnOk result (text.new.items ≡ text.old.items
-        ++ claim_text book.old.document.now.sig (assumptions_in (document_of book.old.document.now).entries) (held_claim book.old.document.now theorem.now)) }
-    ensures count { IfOk result (λ count. count ≡ claim_neighbours (held_claim book.old.document.now theorem.now)) }
+        ++ claim_text book.old.document.now.sig (assumptions_in (document_of book.old.document.now).entries) (held_claim book.old theorem.now)) }
+    ensures count { IfOk result (λ count. count ≡ claim_neighbours (held_claim book.old theorem.now)) }
     ensures neighbours { IfOk result (λ count. neighbours_in book.new.chains ≡ neighbours_in book.old.chains + count) }
     ensures short { IfOk result (λ count. neighbours_in book.old.chains + count ≤ limit_number Limit.Chain) }
+    ensures theorems { OnOk result (map proved_of book.new.chains ≡ map proved_of book.old.chains ++ proved_by (held_claim book.old theorem.now)) }
+    ensures kept { OnOk result (All (IsKept (length book.old.document.now.sig)) book.new.chains) }
     ensures document { book.new.document.now ≡ book.old.document.now }
 {
     let chain = match check_theorem(alloc, book, theorem) {
@@ -136,13 +140,16 @@ fn add_item(
 ) -> Result<u64, Stop>
     requires ready { IsReadyItem book.old item.now }
     requires short { neighbours_in book.old.chains ≤ limit_number Limit.Chain }
-    ensures tests { Tests result (theorem_refusal book.old.document.now.sig (document_of book.old.document.now).entries (item_offset (located tree.now) index)
+    requires kept { All (IsKept (length book.old.document.now.sig)) book.old.chains }
+    ensures tests { Tests result (theorem_refusal book.old.document.now.sig (document_of book.old.document.now).entries (map proved_of book.old.chains) (item_offset (located tree.now) index)
         (neighbours_in book.old.chains) (length text.old.items) (entry_of book.old.document.now.sig item.now)) }
     ensures text { OnOk result (text.new.items ≡ text.old.items
-        ++ item_text book.old.document.now.sig (document_of book.old.document.now).entries (entry_of book.old.document.now.sig item.now)) }
-    ensures count { IfOk result (λ count. count ≡ item_neighbours book.old.document.now.sig (document_of book.old.document.now).entries (entry_of book.old.document.now.sig item.now)) }
+        ++ item_text book.old.document.now.sig (document_of book.old.document.now).entries (map proved_of book.old.chains) (entry_of book.old.document.now.sig item.now)) }
+    ensures count { IfOk result (λ count. count ≡ item_neighbours book.old.document.now.sig (document_of book.old.document.now).entries (map proved_of book.old.chains) (entry_of book.old.document.now.sig item.now)) }
     ensures neighbours { IfOk result (λ count. neighbours_in book.new.chains ≡ neighbours_in book.old.chains + count) }
     ensures short { IfOk result (λ count. neighbours_in book.old.chains + count ≤ limit_number Limit.Chain) }
+    ensures theorems { OnOk result (map proved_of book.new.chains ≡ theorems_with book.old.document.now.sig (document_of book.old.document.now).entries (map proved_of book.old.chains) (entry_of book.old.document.now.sig item.now)) }
+    ensures kept { OnOk result (All (IsKept (length book.old.document.now.sig)) book.new.chains) }
     ensures document { book.new.document.now ≡ book.old.document.now }
 {
     match item {

@@ -28,7 +28,10 @@ fn rule_text(alloc: Global, step: &Step) -> Result<String, NoMemory>
             text.push_str("rev ")?;
             text.push_str(rule_word(rule))?;
         }
-        Step::Invoke { .. } => text.push_str("use")?,
+        Step::Invoke { name, .. } => {
+            text.push_str("use ")?;
+            text.push_str(name.text())?;
+        }
     }
     Ok(text)
 }

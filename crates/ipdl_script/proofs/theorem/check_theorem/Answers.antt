@@ -1,15 +1,16 @@
-use Rattle.std.proofs.Common.{length}
-use Rattle.std.specs.Prelude.{All}
-use Rattle.std.proofs.lemmas.List.Elements.{All-same}
-use Rattle.ipdl_script.proofs.Fits.{whole_is_within}
-use Rattle.ipdl_term.specs.Views.{protocol_of}
-use Rattle.ipdl_term.specs.Within.{IsProtocolWithin}
-use Rattle.ipdl_term.specs.declared.protocol.Proto.{Proto}
+use Rattle.std.proofs.Common.{◌≡◌, length, ap, ◌∙◌, subst}
+use Rattle.std.proofs.lemmas.List.{length-map}
+use Rattle.ipdl_script.proofs.Theorems.{trail_is_kept}
+use Rattle.ipdl_script.specs.Steps.{Setting}
+use Rattle.ipdl_script.specs.Trails.{IsTrailWithin}
+use Rattle.ipdl_script.specs.Views.{setting_of}
+use Rattle.ipdl_typing.specs.Signatures.{symbol_of}
 use Rattle.ipdl_script.proofs.theorem.check_theorem.Goals as goal
 
-pub returns-clause-within : goal.returns-clause-within
-returns-clause-within c =
+pub returns-clause-kept : goal.returns-clause-kept
+returns-clause-kept c =
     let symbols = c.args.book.now.document.now.sig in
-    let Within : Proto → Type 0 = λ term. IsProtocolWithin (length symbols) (protocol_of term) in
-    let each : All Within c.in_ok-trail.trail.terms = λ k d less. whole_is_within symbols c.in-Some.left.now.interface _ (c.in_ok-trail.ensures.trail.fit k d less) in
-    All-same Within _ _ c.in_ok-named.ensures.terms each
+    let trail = c.in_ok-trail.trail in
+    let many : length (setting_of c.setting_with-setting.result).sig ≡ length symbols = ap (λ (x : Setting). length x.sig) c.setting_with-setting.ensures.value ∙ length-map symbols symbol_of in
+    let made = c.in_ok-named.ensures in
+    trail_is_kept (length symbols) trail c.in_ok-named.field-0 made.terms made.marks (subst (λ n. IsTrailWithin n trail) many c.in_ok-trail.ensures.within) made.hidden

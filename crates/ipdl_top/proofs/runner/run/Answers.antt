@@ -1,8 +1,8 @@
 use Rattle.std.proofs.Common.{sym, subst, inr}
 use Rattle.ipdl_top.specs.Runs.{IsVerdict}
 use Rattle.ipdl_top.proofs.Accepted.{IsAccepted-replied, IsChecked-accepted, accepted_where_answered}
-use Rattle.ipdl_top.proofs.Meanings.{neighbours_are_equal, sides_of_answered}
-use Rattle.ipdl_top.specs.Meanings.{HasEqualNeighbours, HasEqualSides}
+use Rattle.ipdl_top.proofs.Meanings.{neighbours_of_answered, exact_sides_of_answered, sides_of_answered}
+use Rattle.ipdl_top.specs.Meanings.{HasMeantNeighbours, HasEqualSidesIfExact, HasEqualSidesIfTrue}
 use Rattle.ipdl_top.proofs.Runs.{IsReplied-calm, IsReplied-verdict, IsRepliedFront-finished, IsPlanned-usage, IsPlanned-over, IsPlanned-within, IsOfSource-replied, of_source, no_usage, no_read_fault, no_memory, write_failed}
 use Rattle.ipdl_top.proofs.runner.run.Goals as goal
 
@@ -112,13 +112,22 @@ returns-in-Ok-reply_to-clause-complete g c =
     λ request bytes t d text answered form told still calm granted.
     accepted_where_answered request _ bytes t d text _ _ _ _ answered form told (IsReplied-calm plan finished calm)
 
-pub returns-in-Ok-reply_to-clause-neighbours_are_equal : goal.returns-in-Ok-reply_to-clause-neighbours_are_equal
-returns-in-Ok-reply_to-clause-neighbours_are_equal g c =
+pub returns-in-Ok-reply_to-clause-neighbours_mean : goal.returns-in-Ok-reply_to-clause-neighbours_mean
+returns-in-Ok-reply_to-clause-neighbours_mean g c =
     let asked = rw c.in-Ok-Some.field-0-is at c.in-Ok-Some.ensures.form in
     let reply = rw c.as_slice.ensures.value at c.in-Ok-reply_to.ensures in
     let plan = IsPlanned-within _ _ _ _ _ _ _ asked c.in-Ok.ensures.whole.1 c.in-Ok.ensures.whole.2 reply in
     let finished = rw c.as_slice-in-Ok-reply_to.ensures.value at c.finish-in-Ok-reply_to.ensures in
-    λ accepted. IsChecked-accepted HasEqualNeighbours neighbours_are_equal _ _ _ _
+    λ accepted. IsChecked-accepted HasMeantNeighbours neighbours_of_answered _ _ _ _
+    (IsAccepted-replied _ _ _ _ _ _ asked (IsReplied-verdict plan finished (subst IsVerdict (sym accepted) tt)) accepted)
+
+pub returns-in-Ok-reply_to-clause-exact_sides_are_equal : goal.returns-in-Ok-reply_to-clause-exact_sides_are_equal
+returns-in-Ok-reply_to-clause-exact_sides_are_equal g c =
+    let asked = rw c.in-Ok-Some.field-0-is at c.in-Ok-Some.ensures.form in
+    let reply = rw c.as_slice.ensures.value at c.in-Ok-reply_to.ensures in
+    let plan = IsPlanned-within _ _ _ _ _ _ _ asked c.in-Ok.ensures.whole.1 c.in-Ok.ensures.whole.2 reply in
+    let finished = rw c.as_slice-in-Ok-reply_to.ensures.value at c.finish-in-Ok-reply_to.ensures in
+    λ accepted. IsChecked-accepted HasEqualSidesIfExact exact_sides_of_answered _ _ _ _
     (IsAccepted-replied _ _ _ _ _ _ asked (IsReplied-verdict plan finished (subst IsVerdict (sym accepted) tt)) accepted)
 
 pub returns-in-Ok-reply_to-clause-sides_are_equal : goal.returns-in-Ok-reply_to-clause-sides_are_equal
@@ -127,5 +136,5 @@ returns-in-Ok-reply_to-clause-sides_are_equal g c =
     let reply = rw c.as_slice.ensures.value at c.in-Ok-reply_to.ensures in
     let plan = IsPlanned-within _ _ _ _ _ _ _ asked c.in-Ok.ensures.whole.1 c.in-Ok.ensures.whole.2 reply in
     let finished = rw c.as_slice-in-Ok-reply_to.ensures.value at c.finish-in-Ok-reply_to.ensures in
-    λ accepted. IsChecked-accepted HasEqualSides sides_of_answered _ _ _ _
+    λ accepted. IsChecked-accepted HasEqualSidesIfTrue sides_of_answered _ _ _ _
     (IsAccepted-replied _ _ _ _ _ _ asked (IsReplied-verdict plan finished (subst IsVerdict (sym accepted) tt)) accepted)

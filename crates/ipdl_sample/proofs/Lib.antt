@@ -1,0 +1,2 @@
+-- The lemmas that the proofs of the calls cite.
+pub mod Pieces

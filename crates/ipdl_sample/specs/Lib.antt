@@ -1,0 +1,2 @@
+-- What the sample documents are.
+pub mod Samples

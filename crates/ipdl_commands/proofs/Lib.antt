@@ -1,3 +1,4 @@
 pub mod Replies
 mod Refusing
 mod Answering
+mod Shapes

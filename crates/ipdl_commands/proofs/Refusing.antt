@@ -1,13 +1,15 @@
--- What `run` refuses, cause by cause.
+-- What `run` refuses, cause by cause, and what `shape` does.
 use Rattle.std.proofs.Common.{◌≡◌, ℕ, ◌<◌, ◌≤◌, Bool, true, false, List, [], Option, Some, None, refl, length, ltb}
 use Rattle.std.proofs.lemmas.Bool.{lt-ltb, le-ltb, ltb-true, ltb-false}
-use Rattle.ipdl_commands.specs.Lines.{IfRefused, ItemRefusal, open_input, abstract_symbol, short_tape, item_line}
+use Rattle.ipdl_commands.specs.Lines.{IfRefused, ItemRefusal, open_input, abstract_symbol, short_tape, names_repeat, item_line}
 use Rattle.ipdl_forms.specs.Networks.{Network}
 use Rattle.ipdl_commands.specs.Running.{IsRunRefusal, run_refusal}
+use Rattle.ipdl_commands.specs.Shapes.{IsShapeRefusal, shape_refusal}
 use Rattle.ipdl_commands.specs.declared.fault.CommandFault.{CommandFault}
 use Rattle.ipdl_commands.specs.declared.fault.CommandFault.TheVariants.{Refused, Memory}
 use Rattle.ipdl_mean.specs.Closed.{Closed, body_of}
 use Rattle.ipdl_mean.specs.Refusals.{IsOpen, IsAbstract, IsShort, first_abstract}
+use Rattle.ipdl_norm.specs.Repeated.{first_repeated_name}
 use Rattle.ipdl_printing.specs.Printing.{symbol_name}
 use Rattle.ipdl_sig.specs.declared.symbol.Symbol.{Symbol}
 use Rattle.ipdl_term.specs.Protocols.{coins}
@@ -19,6 +21,11 @@ pub IfRefused-refusal : (fault : CommandFault) (symbols : List Symbol) (name : L
 IfRefused-refusal (Refused text) symbols name tape found refusal refused written =
     record { refusal = refusal; refused = refused; written = written }
 IfRefused-refusal Memory symbols name tape found refusal refused written = tt
+
+pub IfRefused-shape : (fault : CommandFault) (name : List ℕ) (found : Option Network) (refusal : ItemRefusal) → shape_refusal found ≡ Some refusal → IfRefused fault (λ text. text ≡ item_line name refusal) → IfRefused fault (IsShapeRefusal name found)
+IfRefused-shape (Refused text) name found refusal refused written =
+    record { refusal = refusal; refused = refused; written = written }
+IfRefused-shape Memory name found refusal refused written = tt
 
 -- an open input, told by its name
 pub run_refusal-input : (symbols : List Symbol) (tape : List Bool) (network : Network) (channel shown : Channel) → shown ≡ channel → IsOpen network.interface channel → run_refusal symbols tape (Some network) ≡ Some (open_input shown)
@@ -44,3 +51,7 @@ long_enough p tape not_short = by (ltb (length tape) (coins (body_of p))) refl
     by : (b : Bool) → ltb (length tape) (coins (body_of p)) ≡ b → coins (body_of p) ≤ length tape
     by true e = absurd (not_short (coins (body_of p)) (length tape) (ltb-true _ _ e, refl, refl))
     by false e = ltb-false _ _ e
+
+-- a name that repeats, told by itself
+pub shape_refusal-repeat : (network : Network) (channel shown : Channel) → shown ≡ channel → first_repeated_name network.body ≡ Some channel → shape_refusal (Some network) ≡ Some (names_repeat shown)
+shape_refusal-repeat network channel shown same first = rw (same, first) refl

@@ -20,6 +20,8 @@ pub data ItemRefusal : Type 0 where
   abstract_symbol : (symbol : List ℕ) → ItemRefusal
   -- the tape has fewer bits than are wanted
   short_tape : (want got : ℕ) → ItemRefusal
+  -- the name of a hidden channel stands for another channel too, first this one
+  names_repeat : (channel : List ℕ) → ItemRefusal
 
 -- the words that tell it
 abbrev pub refusal_words : ItemRefusal → List (List ℕ)
@@ -27,6 +29,7 @@ refusal_words no_item = codes "NoItem" ∷ []
 refusal_words (open_input channel) = codes "OpenInput" ∷ channel ∷ []
 refusal_words (abstract_symbol symbol) = codes "AbstractSymbol" ∷ symbol ∷ []
 refusal_words (short_tape want got) = codes "ShortTape" ∷ decimal want ∷ decimal got ∷ []
+refusal_words (names_repeat channel) = codes "NamesRepeat" ∷ channel ∷ []
 
 abbrev pub item_line : (item : List ℕ) → ItemRefusal → List ℕ
 item_line item refusal = line (spaced (codes "item" ∷ item ∷ refusal_words refusal))

@@ -20,6 +20,8 @@ pub(crate) enum Refusal<'a> {
     AbstractSymbol(&'a str),
     // The tape has fewer bits than are wanted.
     ShortTape { want: u64, got: u64 },
+    // The name of a hidden channel stands for another channel too, first this one.
+    NamesRepeat(&'a str),
 }
 
 // The words that tell it.
@@ -31,6 +33,7 @@ fn push_refusal(text: &mut String, refusal: Refusal) -> Result<(), NoMemory>
         Refusal::OpenInput(channel) => write!(text, "OpenInput {channel}")?,
         Refusal::AbstractSymbol(symbol) => write!(text, "AbstractSymbol {symbol}")?,
         Refusal::ShortTape { want, got } => write!(text, "ShortTape {want} {got}")?,
+        Refusal::NamesRepeat(channel) => write!(text, "NamesRepeat {channel}")?,
     }
     Ok(())
 }

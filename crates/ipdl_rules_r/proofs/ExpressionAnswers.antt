@@ -3,7 +3,9 @@ use Rattle.std.proofs.Common.{◌≡◌, ℕ, ◌<◌, ◌≤◌, List, Option, 
 use Rattle.std.specs.Prelude.{◌↔◌, ◌⊎◌, Result, IfOk, take}
 use Rattle.std.proofs.lemmas.Bool.{cases_lt}
 use Rattle.std.proofs.lemmas.List.{reverse-reverse, take-map}
-use Rattle.ipdl_rules_r.specs.Expressions.{question_at, IsAnsweredSame, IsExpressionInstance, AsksWhere, CanBeAsked}
+use Rattle.ipdl_linear.specs.Likeness as L
+use Rattle.ipdl_linear.specs.Likeness.{Pair}
+use Rattle.ipdl_rules_r.specs.Expressions.{question_at, IsAnsweredSame, IsExpressionInstance, AsksWhere, CanBeAsked, OfNone}
 use Rattle.ipdl_rules_r.specs.Told.{told_of}
 use Rattle.ipdl_rules_r.specs.declared.expressions.ExprFault.TheVariants as E
 use Rattle.ipdl_sig.specs.declared.symbol.Symbol.{Symbol}
@@ -76,6 +78,14 @@ no_match_told (Err (Large bits)) e = cc
 no_match_told (Err (TooWide bits)) e = cc
 no_match_told (Err Memory) e = cc
 
+pub form_not_told : (answer : Result Agreement TruthFault) (bit : ℕ) → told_of answer ≡ Err (E.NotForm bit) → ⊥
+form_not_told (Ok Same) bit e = cc
+form_not_told (Ok (Differ valuation)) bit e = cc
+form_not_told (Err (Abstract symbol)) bit e = cc
+form_not_told (Err (Large bits)) bit e = cc
+form_not_told (Err (TooWide bits)) bit e = cc
+form_not_told (Err Memory) bit e = cc
+
 -- ---- an answer to a question
 
 module _ (q : Question) (answer : Result Agreement TruthFault) where
@@ -136,7 +146,7 @@ same_or_memory q (Err (Large bits)) abstracts large wide same h = let k = ((larg
 same_or_memory q (Err (TooWide bits)) abstracts large wide same h = let k = ((wide bits).0 refl).2 in let n = h.narrow in absurd (omega arith)
 same_or_memory q (Err Memory) abstracts large wide same h = inr refl
 
--- ---- at a rule
+-- ---- at `table`
 
 module _ (symbols : List Symbol) (widths : List ℕ) (conditions : List HeldCondition) (old : Expr) (rule : HeldRule) (k : ℕ) (new : Expr) (is : rule ≡ H.Table k new) where
   abbrev stated : List Condition
@@ -156,14 +166,14 @@ module _ (symbols : List Symbol) (widths : List ℕ) (conditions : List HeldCond
       ∙ ap (with_parts (reverse (reverse widths))) (sym (take-map condition_of k conditions))
 
   -- what is so of the question is so of the one that the rule asks
-  pub asks : (P : Question → Type 0) → P asked → AsksWhere P (signature_of symbols) (reverse widths) stated (rule_of rule) (expression_of old)
-  asks P p =
-      let Q : HeldRule → Type 0 = λ x. AsksWhere P (signature_of symbols) (reverse widths) stated (rule_of x) (expression_of old) in
+  pub asks : (P : Question → Type 0) (R : Pair → Type 0) → P asked → AsksWhere P R (signature_of symbols) (reverse widths) stated (rule_of rule) (expression_of old)
+  asks P R p =
+      let Q : HeldRule → Type 0 = λ x. AsksWhere P R (signature_of symbols) (reverse widths) stated (rule_of x) (expression_of old) in
       subst Q (sym is) (subst P asked_is p)
 
-  pub is_asked : (P : Question → Type 0) → AsksWhere P (signature_of symbols) (reverse widths) stated (rule_of rule) (expression_of old) → P asked
-  is_asked P p =
-      let Q : HeldRule → Type 0 = λ x. AsksWhere P (signature_of symbols) (reverse widths) stated (rule_of x) (expression_of old) in
+  pub is_asked : (P : Question → Type 0) (R : Pair → Type 0) → AsksWhere P R (signature_of symbols) (reverse widths) stated (rule_of rule) (expression_of old) → P asked
+  is_asked P R p =
+      let Q : HeldRule → Type 0 = λ x. AsksWhere P R (signature_of symbols) (reverse widths) stated (rule_of x) (expression_of old) in
       subst P (sym asked_is) (subst Q is p)
 
   tests_there : CanBeAsked (signature_of symbols) (reverse widths) stated (rule_of rule) → CanBeAsked (signature_of symbols) (reverse widths) stated (rule_of (H.Table k new))
@@ -184,20 +194,20 @@ module _ (symbols : List Symbol) (widths : List ℕ) (conditions : List HeldCond
       subst IsAnsweredSame (sym asked_is) there.1
 
   module _ (answer : Result Agreement TruthFault) where
-    pub abstracts_told : TellsAbstract asked answer → (symbol : ℕ) → (told_of answer ≡ Err (E.Abstract symbol)) ↔ AsksWhere (λ q. first_abstract q ≡ Some symbol) (signature_of symbols) (reverse widths) stated (rule_of rule) (expression_of old)
+    pub abstracts_told : TellsAbstract asked answer → (symbol : ℕ) → (told_of answer ≡ Err (E.Abstract symbol)) ↔ AsksWhere (λ q. first_abstract q ≡ Some symbol) OfNone (signature_of symbols) (reverse widths) stated (rule_of rule) (expression_of old)
     abstracts_told h symbol =
         let P : Question → Type 0 = λ q. first_abstract q ≡ Some symbol in
-        (λ e. asks P ((h symbol).0 (abstract_told answer symbol e)), λ p. ap told_of ((h symbol).1 (is_asked P p)))
+        (λ e. asks P OfNone ((h symbol).0 (abstract_told answer symbol e)), λ p. ap told_of ((h symbol).1 (is_asked P OfNone p)))
 
-    pub larges_told : TellsLarge asked answer → (bits : ℕ) → (told_of answer ≡ Err (E.Large bits)) ↔ AsksWhere (λ q. (first_abstract q ≡ None) × (greatest_weight < weight_of q) × (bits ≡ saturated (weight_of q))) (signature_of symbols) (reverse widths) stated (rule_of rule) (expression_of old)
+    pub larges_told : TellsLarge asked answer → (bits : ℕ) → (told_of answer ≡ Err (E.Large bits)) ↔ AsksWhere (λ q. (first_abstract q ≡ None) × (greatest_weight < weight_of q) × (bits ≡ saturated (weight_of q))) (λ p. L.IsLarge p bits) (signature_of symbols) (reverse widths) stated (rule_of rule) (expression_of old)
     larges_told h bits =
         let P : Question → Type 0 = λ q. (first_abstract q ≡ None) × (greatest_weight < weight_of q) × (bits ≡ saturated (weight_of q)) in
-        (λ e. asks P ((h bits).0 (large_told answer bits e)), λ p. ap told_of ((h bits).1 (is_asked P p)))
+        (λ e. asks P (λ p. L.IsLarge p bits) ((h bits).0 (large_told answer bits e)), λ p. ap told_of ((h bits).1 (is_asked P (λ x. L.IsLarge x bits) p)))
 
-    pub wides_told : TellsWide asked answer → (bits : ℕ) → (told_of answer ≡ Err (E.TooWide bits)) ↔ AsksWhere (λ q. (first_abstract q ≡ None) × (weight_of q ≤ greatest_weight) × (greatest_free_bits < free_bits q) × (bits ≡ free_bits q)) (signature_of symbols) (reverse widths) stated (rule_of rule) (expression_of old)
+    pub wides_told : TellsWide asked answer → (bits : ℕ) → (told_of answer ≡ Err (E.TooWide bits)) ↔ AsksWhere (λ q. (first_abstract q ≡ None) × (weight_of q ≤ greatest_weight) × (greatest_free_bits < free_bits q) × (bits ≡ free_bits q)) OfNone (signature_of symbols) (reverse widths) stated (rule_of rule) (expression_of old)
     wides_told h bits =
         let P : Question → Type 0 = λ q. (first_abstract q ≡ None) × (weight_of q ≤ greatest_weight) × (greatest_free_bits < free_bits q) × (bits ≡ free_bits q) in
-        (λ e. asks P ((h bits).0 (wide_told answer bits e)), λ p. ap told_of ((h bits).1 (is_asked P p)))
+        (λ e. asks P OfNone ((h bits).0 (wide_told answer bits e)), λ p. ap told_of ((h bits).1 (is_asked P OfNone p)))
 
-    pub differs_told : ((valuation : List (ℕ × Value)) → answer ≡ Ok (Differ valuation) → DifferFirstAt asked valuation) → (valuation : List (ℕ × Value)) → told_of answer ≡ Err (E.NotSame valuation) → AsksWhere (λ q. DifferFirstAt q valuation) (signature_of symbols) (reverse widths) stated (rule_of rule) (expression_of old)
-    differs_told h valuation e = asks (λ q. DifferFirstAt q valuation) (h valuation (differ_told answer valuation e))
+    pub differs_told : ((valuation : List (ℕ × Value)) → answer ≡ Ok (Differ valuation) → DifferFirstAt asked valuation) → (valuation : List (ℕ × Value)) → told_of answer ≡ Err (E.NotSame valuation) → AsksWhere (λ q. DifferFirstAt q valuation) OfNone (signature_of symbols) (reverse widths) stated (rule_of rule) (expression_of old)
+    differs_told h valuation e = asks (λ q. DifferFirstAt q valuation) OfNone (h valuation (differ_told answer valuation e))

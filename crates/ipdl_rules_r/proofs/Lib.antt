@@ -16,3 +16,4 @@ pub mod Weights
 pub mod Found
 pub mod AnswerLaws
 pub mod Refuted
+pub mod FormAnswers

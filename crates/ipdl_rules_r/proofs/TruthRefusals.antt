@@ -28,10 +28,10 @@ is_above a b above = grind (arith, nat_tests)
 is_not_above : (a b : ℕ) → b ≤ a → nat_lt a b ≡ false
 is_not_above a b within = grind (arith, nat_tests)
 
-refused_above-more : (most number : ℕ) (refusal : TruthRefusal) → most < number → refused_above most number refusal ≡ Some refusal
+pub refused_above-more : (most number : ℕ) (refusal : TruthRefusal) → most < number → refused_above most number refusal ≡ Some refusal
 refused_above-more most number refusal above = rw (is_above most number above) refl
 
-refused_above-none : (most number : ℕ) (refusal : TruthRefusal) → number ≤ most → refused_above most number refusal ≡ None
+pub refused_above-none : (most number : ℕ) (refusal : TruthRefusal) → number ≤ most → refused_above most number refusal ≡ None
 refused_above-none most number refusal within = rw (is_not_above most number within) refl
 
 -- ---- the first test that fails

@@ -1,7 +1,9 @@
--- The rule that rewrites an expression where its conditions are met: when the second expression is what the rule makes of
--- the first. Binders and conditions stand innermost first, as in the surroundings of a place; a question of truth has the
--- widths from the outermost.
+-- The rules that rewrite an expression: by the truth where conditions are met, and by linear forms. When the second
+-- expression is what the rule makes of the first. Binders and conditions stand innermost first, as in the surroundings of a
+-- place; a question of truth and a pair of expressions have the widths from the outermost.
 use Rattle.std.specs.Prelude.{◌≡◌, ℕ, ◌≤◌, List, None, length, reverse, take}
+use Rattle.ipdl_linear.specs.Likeness.{Pair, HaveSameForms}
+use Rattle.ipdl_linear.specs.Likeness as L
 use Rattle.ipdl_term.specs.Interpretations.{Signature}
 use Rattle.ipdl_term.specs.Rules.{Rule}
 use Rattle.ipdl_term.specs.Rules as R
@@ -26,27 +28,44 @@ pub record IsAnsweredSame (q : Question) : Type 0 where
   pub narrow : free_bits q ≤ greatest_free_bits
   pub agree : AgreeEverywhere q
 
+-- the two expressions among these binders
+abbrev pub pair_at : Signature → (widths : List ℕ) → (left right : Expression) → Pair
+pair_at sig widths left right = record { sig = sig; widths = reverse widths; left = left; right = right }
+
+-- They have the same linear forms, bit by bit, and the widths of all subexpressions add up to 8,192 at most.
+pub record AreFoundAlike (p : Pair) : Type 0 where
+  pub light : L.weight_of p ≤ greatest_weight
+  pub same : HaveSameForms p
+
 -- the second expression is what the rule makes of the first
 abbrev pub IsExpressionInstance : Signature → (widths : List ℕ) → List Condition → Rule → (left right : Expression) → Type 0
 IsExpressionInstance sig widths conditions (R.table k e) left right =
     (k ≤ length conditions) × IsAnsweredSame (question_at sig widths conditions k left e) × (right ≡ e)
+IsExpressionInstance sig widths conditions (R.lin e) left right = AreFoundAlike (pair_at sig widths left e) × (right ≡ e)
 IsExpressionInstance _ _ _ _ _ _ = ⊥
 
 -- ---- what a rule asks
 
--- the rule asks a question, and this is so of it
-abbrev pub AsksWhere : (P : Question → Type 0) → Signature → (widths : List ℕ) → List Condition → Rule → (left : Expression) → Type 0
-AsksWhere P sig widths conditions (R.table k e) left = P (question_at sig widths conditions k left e)
-AsksWhere _ _ _ _ _ _ = ⊥
+-- the rule asks a question of truth and the one is so of it, or it compares linear forms and the other is so of the pair
+abbrev pub AsksWhere : (P : Question → Type 0) → (Q : Pair → Type 0) → Signature → (widths : List ℕ) → List Condition → Rule → (left : Expression) → Type 0
+AsksWhere P Q sig widths conditions (R.table k e) left = P (question_at sig widths conditions k left e)
+AsksWhere P Q sig widths conditions (R.lin e) left = Q (pair_at sig widths left e)
+AsksWhere _ _ _ _ _ _ _ = ⊥
 
--- the rule asks a question
+-- so it is of no question, and of no pair
+abbrev pub OfNone : {X : Type 0} → X → Type 0
+OfNone x = ⊥
+
+-- the rule asks a question, or compares linear forms
 abbrev pub IsAsking : Rule → Type 0
 IsAsking (R.table k e) = Unit {0}
+IsAsking (R.lin e) = Unit {0}
 IsAsking _ = ⊥
 
--- The expression of the rule is typed, and there are as many conditions as it uses, of which each tests one bit. The rules
--- that are made for other terms ask nothing.
+-- The expression of the rule is typed, and for `table` there are as many conditions as it uses, of which each tests one
+-- bit. The rules that are made for other terms ask nothing.
 abbrev pub CanBeAsked : Signature → (widths : List ℕ) → List Condition → Rule → Type 0
 CanBeAsked sig widths conditions (R.table k e) =
     ((w : ℕ) × HasWidth sig widths e w) × (k ≤ length conditions) × AreTests sig widths (take k conditions)
+CanBeAsked sig widths conditions (R.lin e) = (w : ℕ) × HasWidth sig widths e w
 CanBeAsked _ _ _ _ = Unit {0}

@@ -1,11 +1,14 @@
-//! The rule that rewrites an expression where its conditions are met: its law, and the call that
-//! answers whether it applies.
+//! The rules that rewrite an expression, by the truth where its conditions are met or by its linear
+//! forms: their laws, and the call that answers whether one applies.
 
 ghost use Rattle.std.specs.Prelude.{◌≡◌, ◌↔◌, ◌⊎◌, ◌<◌, ◌≤◌, List, None, Some, length, map, reverse, ℕ};
 ghost use Rattle.ipdl_laws.specs.MeanSame.{MeanSame};
-ghost use Rattle.ipdl_rules_r.specs.Expressions.{AsksWhere, CanBeAsked, IsAnsweredSame, IsAsking, IsExpressionInstance};
-ghost use Rattle.ipdl_rules_r.specs.Told.{told_of};
-ghost use Rattle.ipdl_rules_r.specs.TruthTests.{TellsTruth, truth_refusal};
+ghost use Rattle.ipdl_linear.specs.Likeness as L;
+ghost use Rattle.ipdl_linear.specs.Likeness.{Pair};
+ghost use Rattle.ipdl_linear.specs.declared.likeness.Likeness.TheVariants.{Differ};
+ghost use Rattle.ipdl_rules_r.specs.Expressions.{AreFoundAlike, AsksWhere, CanBeAsked, IsAnsweredSame, IsAsking, IsExpressionInstance, OfNone};
+ghost use Rattle.ipdl_rules_r.specs.Told.{told_of, told_of_forms};
+ghost use Rattle.ipdl_rules_r.specs.TruthTests.{TellsTruth, form_refusal, truth_refusal};
 ghost use Rattle.ipdl_term.specs.Equality.{Equal};
 ghost use Rattle.ipdl_term.specs.Interpretations.{Interpretation, Interprets, Signature};
 ghost use Rattle.ipdl_term.specs.Places.{term_at, term_with};
@@ -23,6 +26,7 @@ ghost use Rattle.ipdl_truth.specs.Weights.{greatest_weight};
 ghost use Rattle.ipdl_typing.specs.Signatures.{signature_of};
 
 use ipdl_base::{Bits, List};
+use ipdl_linear::{Likeness, LinearFault, same_form};
 use ipdl_sig::Sig;
 use ipdl_term::{Condition, Expr, Rule};
 use ipdl_truth::{Agreement, TruthFault, agree};
@@ -43,15 +47,19 @@ pub enum ExprFault {
     /// The two expressions differ, first at these values of the free variables: the depth of each,
     /// which is 0 for that of the outermost binder, and its value, the outermost first.
     NotSame { valuation: List<(u32, Bits)> },
+    /// The linear forms of the two expressions differ, first in this bit, or this is the smaller width
+    /// where the widths differ and all bits that both have agree.
+    NotForm { bit: u8 },
     /// Memory ran out.
     Memory,
 }
 
-/// An expression and what the rule makes of it have one value under every interpretation, wherever
-/// the variables fit and the conditions are met.
+/// A typed expression and the typed one that the rule makes of it have one value under every
+/// interpretation, wherever the variables fit and the conditions are met.
 pub fn expression_instance_means()
     ensures { (sig : Signature) (J : Interpretation) → Interprets sig J →
-        (s : Surroundings) (rule : StatedRule) (left right : Expression) →
+        (s : Surroundings) (rule : StatedRule) (left right : Expression) (v w : ℕ) →
+        HasWidth sig s.widths left v → HasWidth sig s.widths right w →
         IsExpressionInstance sig s.widths s.conditions rule left right →
         MeanSame J s (expression_term left) (expression_term right) }
 {}
@@ -75,6 +83,11 @@ pub fn truth_exactly()
     ensures { (q : Question) → IsAnsweredSame q ↔ (truth_refusal q ≡ None) }
 {}
 
+/// Two expressions are found alike exactly where none of the tests refuses them.
+pub fn forms_exactly()
+    ensures { (p : Pair) → AreFoundAlike p ↔ (form_refusal p ≡ None) }
+{}
+
 // What the answer on the truth says of the rule.
 fn told(answer: Result<Agreement, TruthFault>) -> Result<(), ExprFault>
     ensures { result ≡ told_of answer }
@@ -89,10 +102,22 @@ fn told(answer: Result<Agreement, TruthFault>) -> Result<(), ExprFault>
     }
 }
 
+// What the answer on the linear forms says of the rule.
+fn told_of_forms(answer: Result<Likeness, LinearFault>) -> Result<(), ExprFault>
+    ensures { result ≡ told_of_forms answer }
+{
+    match answer {
+        Ok(Likeness::Same) => Ok(()),
+        Ok(Likeness::Differ { bit }) => Err(ExprFault::NotForm { bit }),
+        Err(LinearFault::Large { bits }) => Err(ExprFault::Large { bits }),
+        Err(LinearFault::Memory) => Err(ExprFault::Memory),
+    }
+}
+
 /// Whether the rule makes something of the expression: of `table`, whether this and the rule's
 /// expression have one value on all values of the variables that meet the innermost conditions, as
-/// many as the rule says. `widths` are those of the binders, from the outermost, and the conditions
-/// stand innermost first.
+/// many as the rule says; of `lin`, whether the two have the same linear forms. `widths` are those
+/// of the binders, from the outermost, and the conditions stand innermost first.
 pub fn apply_expr(
     alloc: Global,
     sig: &Sig,
@@ -114,26 +139,31 @@ pub fn apply_expr(
         (expression_of old.now) right → (result ≡ Ok tt) ⊎ (result ≡ Err ExprFault.Memory) }
     ensures no_match { (result ≡ Err ExprFault.NoMatch) ↔ (IsAsking (rule_of rule.now) → ⊥) }
     ensures abstracts { (symbol : ℕ) → (result ≡ Err (ExprFault.Abstract symbol)) ↔
-        AsksWhere (λ q. first_abstract q ≡ Some symbol) (signature_of sig.now)
+        AsksWhere (λ q. first_abstract q ≡ Some symbol) OfNone (signature_of sig.now)
         (reverse widths.now) (map condition_of conditions.now) (rule_of rule.now)
         (expression_of old.now) }
     ensures large { (bits : ℕ) → (result ≡ Err (ExprFault.Large bits)) ↔
         AsksWhere (λ q. (first_abstract q ≡ None) × (greatest_weight < weight_of q) ×
-        (bits ≡ saturated (weight_of q))) (signature_of sig.now)
+        (bits ≡ saturated (weight_of q))) (λ p. L.IsLarge p bits) (signature_of sig.now)
         (reverse widths.now) (map condition_of conditions.now) (rule_of rule.now)
         (expression_of old.now) }
     ensures too_wide { (bits : ℕ) → (result ≡ Err (ExprFault.TooWide bits)) ↔
         AsksWhere (λ q. (first_abstract q ≡ None) × (weight_of q ≤ greatest_weight) ×
-        (greatest_free_bits < free_bits q) × (bits ≡ free_bits q)) (signature_of sig.now)
+        (greatest_free_bits < free_bits q) × (bits ≡ free_bits q)) OfNone (signature_of sig.now)
         (reverse widths.now) (map condition_of conditions.now) (rule_of rule.now)
         (expression_of old.now) }
     ensures not_same { (valuation : List (ℕ × Value)) →
         result ≡ Err (ExprFault.NotSame valuation) →
-        AsksWhere (λ q. DifferFirstAt q valuation) (signature_of sig.now)
+        AsksWhere (λ q. DifferFirstAt q valuation) OfNone (signature_of sig.now)
         (reverse widths.now) (map condition_of conditions.now) (rule_of rule.now)
         (expression_of old.now) }
+    ensures not_form { (bit : ℕ) → result ≡ Err (ExprFault.NotForm bit) →
+        AsksWhere OfNone (λ p. (L.weight_of p ≤ greatest_weight) × (L.likeness_of p ≡ Differ bit))
+        (signature_of sig.now) (reverse widths.now) (map condition_of conditions.now)
+        (rule_of rule.now) (expression_of old.now) }
     ensures told { IsAsking (rule_of rule.now) →
-        AsksWhere (λ q. TellsTruth result (truth_refusal q)) (signature_of sig.now)
+        AsksWhere (λ q. TellsTruth result (truth_refusal q))
+        (λ p. TellsTruth result (form_refusal p)) (signature_of sig.now)
         (reverse widths.now) (map condition_of conditions.now) (rule_of rule.now)
         (expression_of old.now) }
 {
@@ -142,6 +172,7 @@ pub fn apply_expr(
             let used = &conditions[..*k as usize];
             told(agree(alloc, sig, widths, old, new, used))
         }
+        Rule::Lin(new) => told_of_forms(same_form(alloc, sig, widths, old, new)),
         _ => Err(ExprFault::NoMatch),
     }
 }

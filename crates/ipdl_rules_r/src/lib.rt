@@ -18,7 +18,8 @@ mod worked_expressions;
 
 pub use applying::apply_react;
 pub use expressions::{
-    ExprFault, apply_expr, expression_instance_at_place, expression_instance_means, truth_exactly,
+    ExprFault, apply_expr, expression_instance_at_place, expression_instance_means, forms_exactly,
+    truth_exactly,
 };
 pub use fault::RuleFault;
 pub use instances::{
@@ -43,5 +44,6 @@ pub use variables::{
 };
 pub use worked::{each_rule_once, failing_sides, other_shapes};
 pub use worked_expressions::{
-    cancelled_bits_are_zeros, no_rule_for_expressions, refused_questions, variables_in_their_arms,
+    cancelled_bits_are_zeros, exchanged_factors_and_an_odd_bit, no_rule_for_expressions,
+    refused_questions, variables_in_their_arms,
 };

@@ -1,12 +1,13 @@
-//! Worked rows of the rule that rewrites an expression: each is computed from the definitions. The
+//! Worked rows of the rules that rewrite an expression: each is computed from the definitions. The
 //! functions do nothing, and their contracts are the rows.
 
 ghost use Rattle.std.specs.Prelude.{◌≡◌, false, true, [], ◌∷◌, None, Some};
-ghost use Rattle.ipdl_rules_r.specs.Expressions.{IsExpressionInstance, question_at};
-ghost use Rattle.ipdl_rules_r.specs.TruthTests.{differ_at, too_wide, truth_refusal};
+ghost use Rattle.ipdl_rules_r.specs.Expressions.{IsExpressionInstance, pair_at, question_at};
+ghost use Rattle.ipdl_rules_r.specs.TruthTests.{differ_at, form_refusal, other_forms, too_wide, truth_refusal};
 ghost use Rattle.ipdl_rules_r.specs.Worked.{symbols, v0, v1};
 ghost use Rattle.ipdl_rules_r.specs.WorkedExpressions.{cancelled, nothing_of, two_arms, two_binders};
 ghost use Rattle.ipdl_term.specs.Rules as R;
+ghost use Rattle.ipdl_term.specs.Terms.{conjunction};
 
 /// `(xor x x)` is `#000000000000`, for an x of 12 bits and with no condition.
 pub fn cancelled_bits_are_zeros()
@@ -29,6 +30,13 @@ pub fn refused_questions()
     ensures innermost_alone { truth_refusal (question_at symbols two_binders two_arms 1 v1 (nothing_of 2))
         ≡ Some (differ_at ((0, false ∷ true ∷ []) ∷ (1, false ∷ []) ∷ [])) }
     ensures wide { truth_refusal (question_at symbols (13 ∷ []) [] 0 cancelled (nothing_of 13)) ≡ Some (too_wide 13) }
+{}
+
+/// `lin` makes `(and x y)` of `(and y x)`, for an x and a y of one bit. A variable of one bit and `#0`
+/// have other forms, first of bit 0.
+pub fn exchanged_factors_and_an_odd_bit()
+    ensures exchanged { IsExpressionInstance symbols (1 ∷ 1 ∷ []) [] (R.lin (conjunction v0 v1)) (conjunction v1 v0) (conjunction v0 v1) }
+    ensures odd { form_refusal (pair_at symbols (1 ∷ []) v0 (nothing_of 1)) ≡ Some (other_forms 0) }
 {}
 
 /// A rule for protocols makes nothing of an expression.

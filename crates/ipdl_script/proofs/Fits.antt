@@ -1,5 +1,5 @@
 -- Room for the variables: a term has no more binders than nodes, and no variable without one.
-use Rattle.std.proofs.Common.{◌≡◌, ℕ, suc, ◌+◌, ◌*◌, ◌^◌, ◌<◌, ◌≤◌, List, length, refl, ap, ap₂, ◌∙◌, arith}
+use Rattle.std.proofs.Common.{◌≡◌, ℕ, suc, ◌+◌, ◌*◌, ◌^◌, ◌<◌, ◌≤◌, List, length, reverse, refl, sym, ap, ap₂, ◌∙◌, arith}
 use Rattle.std.specs.Prelude.{max}
 use Rattle.std.proofs.lemmas.List.{length-reverse}
 use Rattle.ipdl_term.proofs.WithinLemmas.{IsProtocolWithin-typed}
@@ -148,3 +148,7 @@ greatest_in_rule-settled d (R.mask e) = greatest_in_expression-settled (d + 1) e
 greatest_in_rule-settled d (R.table k e) = omega arith
 greatest_in_rule-settled d (R.lin e) = omega arith
 greatest_in_rule-settled d _ = omega arith
+
+-- the number of widths that are held is that of the widths around
+pub depth_is : (held widths : List ℕ) → reverse held ≡ widths → length held ≡ length widths
+depth_is held widths h = sym (length-reverse held) ∙ ap length h

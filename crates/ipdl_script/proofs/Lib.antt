@@ -12,6 +12,8 @@ pub mod WrongLaws
 pub mod Fits
 pub mod PartRoom
 pub mod PartTests
+pub mod PlacedExpressions
+pub mod FormTruth
 pub mod TableTruth
 pub mod Refusals
 pub mod WholeTerms

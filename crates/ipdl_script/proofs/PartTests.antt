@@ -3,9 +3,7 @@ use Rattle.std.proofs.Common.{◌≡◌, ℕ, nat_le, Bool, true, false, List, [
 use Rattle.std.specs.Option.{option_or}
 use Rattle.std.specs.Prelude.{IsSomeAnd, if◌then◌else◌, ◌&&◌}
 use Rattle.ipdl_base.specs.declared.limit.Limit.TheVariants.{Nodes}
-use Rattle.ipdl_rules_p.specs.Matching as P
-use Rattle.ipdl_rules_r.specs.Matching as Q
-use Rattle.ipdl_script.proofs.InstanceLaws.{given_protocol, given_reaction, given_expression}
+use Rattle.ipdl_script.proofs.InstanceLaws.{given_at_protocol, given_at_reaction, given_expression, given_right}
 use Rattle.ipdl_script.proofs.Refusals.{told_first, none_told, answers_later}
 use Rattle.ipdl_script.proofs.StepTests.{option_or-none}
 use Rattle.ipdl_script.specs.Answers.{TellsRefusal}
@@ -49,6 +47,11 @@ pub table_refusal : (conditions : List Condition) (d k : ℕ) (e : Expression) �
 table_refusal conditions d k e =
     refused_answer (nat_le k (length conditions)) (expression_term (settled_expression d e))
     ∙ ap (λ n. option_or (refused_unless (nat_le k (length conditions)) (side_fails 1)) (limit_test Nodes most_nodes n)) (expression_nodes-settled d e)
+
+-- what `lin` answers is too large or not
+pub lin_refusal : (d : ℕ) (e : Expression) → answer_refusal (gives (expression_term (settled_expression d e))) ≡ limit_test Nodes most_nodes (expression_nodes e)
+lin_refusal d e =
+    refused_answer true (expression_term (settled_expression d e)) ∙ ap (limit_test Nodes most_nodes) (expression_nodes-settled d e)
 
 -- ---- changes
 
@@ -113,10 +116,11 @@ module _ (sig : Signature) (s : Surroundings) where
   -- ---- kinds
 
   kept_kind : (rule : Rule) (left right : Term) → answer_at sig s rule left ≡ gives right → AreOfOneKind left right
-  kept_kind rule (protocol_term left) right h = let given = given_protocol (P.answer rule left) right h in subst (AreOfOneKind (protocol_term left)) (sym given.2) tt
-  kept_kind rule (reaction_term left) right h = let given = given_reaction (Q.answer sig rule left) right h in subst (AreOfOneKind (reaction_term left)) (sym given.2) tt
+  kept_kind rule (protocol_term left) right h = let given = given_at_protocol rule left right h in subst (AreOfOneKind (protocol_term left)) (sym given.1) tt
+  kept_kind rule (reaction_term left) right h = let given = given_at_reaction sig rule left right h in subst (AreOfOneKind (reaction_term left)) (sym given.1) tt
   kept_kind (R.table k e) (expression_term left) right h =
       let given = given_expression (nat_le k (length s.conditions)) (expression_term e) right h in subst (AreOfOneKind (expression_term left)) (sym given.1) tt
+  kept_kind (R.lin e) (expression_term left) right h = subst (AreOfOneKind (expression_term left)) (given_right (expression_term e) right h) tt
   kept_kind _ (expression_term left) right h = cc
 
   written_kind : (rule : Rule) (written part : Term) → written_answer sig s rule written part ≡ gives part → AreOfOneKind part written

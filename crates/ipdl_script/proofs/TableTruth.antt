@@ -2,13 +2,12 @@
 use Rattle.std.proofs.Common.{◌≡◌, ℕ, zero, suc, ◌≤◌, nat_le, true, List, [], ◌∷◌, length, Some, None, Result, sym, ap, ◌∙◌, subst}
 use Rattle.std.proofs.lemmas.Bool.{leb-true}
 use Rattle.std.specs.Prelude.{take, option_map}
-use Rattle.ipdl_laws.proofs.Replacing.{kept}
 use Rattle.ipdl_laws.proofs.Sets.{if-true}
 use Rattle.ipdl_laws.proofs.TypedParts.{typed_part}
 use Rattle.ipdl_rules_r.specs.Expressions.{question_at}
 use Rattle.ipdl_rules_r.specs.TruthTests.{truth_refusal}
-use Rattle.ipdl_script.proofs.InstanceLaws.{protocol_is}
-use Rattle.ipdl_script.proofs.PartTests.{table_refusal, plain_refusal, plain_changed}
+use Rattle.ipdl_script.proofs.PartTests.{table_refusal, plain_refusal}
+use Rattle.ipdl_script.proofs.PlacedExpressions.{old_is_typed, new_is_typed}
 use Rattle.ipdl_script.proofs.StepTests.{none_of_either}
 use Rattle.ipdl_script.proofs.StepTests.{true_unless}
 use Rattle.ipdl_script.specs.Fitting.{WholeFits}
@@ -58,28 +57,17 @@ module _ (x : Setting) (before : Protocol) (place : List ℕ) (k : ℕ) (e old :
       ap (λ part. truth_test x there (plain place (R.table k new)) part (answer_to x there (plain place (R.table k new)) part)) at
       ∙ ap (truth_test x there (plain place (R.table k new)) (Some (expression_term old))) (answered passed)
 
-  -- the new expression is typed there
-  new_is_typed : part_refusal x before step ≡ None → HasInterface x.sig x.interface (after_step x before step) → IsTypedAt x.sig there (expression_term new)
-  new_is_typed passed typed =
-      let s = outermost (scope_in x) in
-      let result = term_with (protocol_term before) place (expression_term new) in
-      let keeps = kept s (protocol_term before) place (expression_term old) (expression_term new) at tt in
-      let after : IsTyped x.sig (scope_in x) (protocol_or before result) =
-      subst (IsTyped x.sig (scope_in x)) (plain_changed x before place (R.table k e) (expression_term old) at (expression_term new) (answered passed)).whole typed.typed in
-      let whole : IsTypedAt x.sig s result = subst (IsTypedAt x.sig s) (sym (protocol_is before result keeps.0)) after in
-      subst (λ t. IsTypedAt x.sig t (expression_term new)) keeps.2 (typed_part x.sig s result whole tt place (expression_term new) keeps.1).0
-
   -- ---- where widths, conditions and depth are held by the program
 
   module _ (widths : List ℕ) (conditions : List Condition) (depth : ℕ) (w : widths ≡ there.widths) (c : conditions ≡ there.conditions) (d : depth ≡ length there.widths) where
     pub old_fits : WholeFits x before → (n : ℕ) × HasWidth x.sig widths old n
     old_fits whole =
-        subst (λ ws. (n : ℕ) × HasWidth x.sig ws old n) (sym w) (typed_part x.sig (outermost (scope_in x)) (protocol_term before) whole.typed.typed tt place (expression_term old) at).0
+        subst (λ ws. (n : ℕ) × HasWidth x.sig ws old n) (sym w) (old_is_typed x before place old at whole)
 
     pub new_fits : part_refusal x before step ≡ None → HasInterface x.sig x.interface (after_step x before step) → (n : ℕ) × HasWidth x.sig widths (settled_expression depth e) n
     new_fits passed typed =
         subst (λ m. (n : ℕ) × HasWidth x.sig widths (settled_expression m e) n) (sym d)
-        (subst (λ ws. (n : ℕ) × HasWidth x.sig ws new n) (sym w) (new_is_typed passed typed))
+        (subst (λ ws. (n : ℕ) × HasWidth x.sig ws new n) (sym w) (new_is_typed x before place old at (R.table k e) new (answered passed) typed))
 
     pub tests_fit : WholeFits x before → AreTests x.sig widths (take k conditions)
     tests_fit whole =

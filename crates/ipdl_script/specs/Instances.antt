@@ -1,22 +1,28 @@
--- Instances of rules at a place in a term, and what a rule answers there. Each crate of rules has its cases here, by the
--- kind of term that its rules rewrite; whatever is said of steps asks these definitions alone.
-use Rattle.std.specs.Prelude.{ℕ, nat_le, List, length, Option, None, if◌then◌else◌}
+-- Instances of rules at a place in a term, and what a rule answers there. Each crate of rules has its cases here, and so
+-- have the normal forms, by the kind of term that the rules rewrite; whatever is said of steps asks these definitions alone.
+use Rattle.std.specs.Prelude.{ℕ, nat_le, List, length, Option, Some, None, if◌then◌else◌, ◌⊎◌}
+use Rattle.ipdl_norm.specs.Repeated.{first_repeated_name}
+use Rattle.ipdl_norm.specs.Shaped.{shaped}
+use Rattle.ipdl_norm.specs.Tidied.{tidied}
 use Rattle.ipdl_rules_p.specs.Instances.{IsProtocolInstance}
 use Rattle.ipdl_rules_p.specs.Matching as P
-use Rattle.ipdl_rules_r.specs.Expressions.{IsExpressionInstance, question_at}
+use Rattle.ipdl_rules_r.specs.Expressions.{IsExpressionInstance, pair_at, question_at}
 use Rattle.ipdl_rules_r.specs.Instances.{IsReactionInstance}
 use Rattle.ipdl_rules_r.specs.Matching as Q
-use Rattle.ipdl_rules_r.specs.TruthTests.{TruthRefusal, truth_refusal}
+use Rattle.ipdl_rules_r.specs.TruthTests.{TruthRefusal, form_refusal, truth_refusal}
+use Rattle.ipdl_script.specs.NormalForms.{IsShaping, IsTidying}
 use Rattle.ipdl_term.specs.Interpretations.{Signature}
 use Rattle.ipdl_term.specs.Rules.{Rule}
 use Rattle.ipdl_term.specs.Rules as R
 use Rattle.ipdl_term.specs.Surroundings.{Surroundings, Condition}
-use Rattle.ipdl_term.specs.Terms.{Term, protocol_term, reaction_term, expression_term}
+use Rattle.ipdl_term.specs.Terms.{Channel, Protocol, Reaction, Term, protocol_term, reaction_term, expression_term}
 
 -- the second term is what the rule makes of the first, where these symbols and surroundings are
 abbrev pub IsInstanceAt : Signature → Surroundings → Rule → (left right : Term) → Type 0
-IsInstanceAt sig around rule (protocol_term left) (protocol_term right) = IsProtocolInstance rule left right
-IsInstanceAt sig around rule (reaction_term left) (reaction_term right) = IsReactionInstance sig rule left right
+IsInstanceAt sig around rule (protocol_term left) (protocol_term right) =
+    IsProtocolInstance rule left right ⊎ IsShaping rule left right
+IsInstanceAt sig around rule (reaction_term left) (reaction_term right) =
+    IsReactionInstance sig rule left right ⊎ IsTidying rule left right
 IsInstanceAt sig around rule (expression_term left) (expression_term right) =
     IsExpressionInstance sig around.widths around.conditions rule left right
 IsInstanceAt _ _ _ _ _ = ⊥
@@ -43,17 +49,33 @@ answer_of_reactions Q.other_shape = other_shape
 answer_of_reactions (Q.failing number) = failing number
 answer_of_reactions (Q.gives right) = gives (reaction_term right)
 
--- What a rule for expressions answers, whatever stands there: its own expression, where so many conditions are around.
--- Whether that is equal is asked last of all.
+-- what `shape` answers: a shape, where no name repeats
+abbrev pub shape_answer : (repeated : Option Channel) → Protocol → Answer
+shape_answer None left = gives (protocol_term (shaped left))
+shape_answer (Some c) left = failing 1
+
+-- what a rule answers to a protocol
+abbrev pub protocol_answer : Rule → (left : Protocol) → Answer
+protocol_answer R.shape left = shape_answer (first_repeated_name left) left
+protocol_answer rule left = answer_of_protocols (P.answer rule left)
+
+-- what a rule answers to a reaction
+abbrev pub reaction_answer : Signature → Rule → (left : Reaction) → Answer
+reaction_answer sig R.tidy left = gives (reaction_term (tidied left))
+reaction_answer sig rule left = answer_of_reactions (Q.answer sig rule left)
+
+-- What a rule for expressions answers, whatever stands there: its own expression, for `table` where so many conditions are
+-- around. Whether that is equal is asked last of all.
 abbrev pub expression_answer : List Condition → Rule → Answer
 expression_answer conditions (R.table k e) =
     if nat_le k (length conditions) then gives (expression_term e) else failing 1
+expression_answer conditions (R.lin e) = gives (expression_term e)
 expression_answer conditions _ = other_shape
 
 -- what the rule answers to a term there
 abbrev pub answer_at : Signature → Surroundings → Rule → (left : Term) → Answer
-answer_at sig around rule (protocol_term left) = answer_of_protocols (P.answer rule left)
-answer_at sig around rule (reaction_term left) = answer_of_reactions (Q.answer sig rule left)
+answer_at sig around rule (protocol_term left) = protocol_answer rule left
+answer_at sig around rule (reaction_term left) = reaction_answer sig rule left
 answer_at sig around rule (expression_term left) = expression_answer around.conditions rule
 
 -- ---- truth
@@ -62,4 +84,5 @@ answer_at sig around rule (expression_term left) = expression_answer around.cond
 abbrev pub truth_at : Signature → Surroundings → Rule → (left : Term) → Option TruthRefusal
 truth_at sig around (R.table k e) (expression_term left) =
     truth_refusal (question_at sig around.widths around.conditions k left e)
+truth_at sig around (R.lin e) (expression_term left) = form_refusal (pair_at sig around.widths left e)
 truth_at _ _ _ _ = None

@@ -1,3 +1,4 @@
+pub mod NormalForms
 pub mod Instances
 pub mod Settling
 pub mod Known

@@ -4,7 +4,7 @@ use Rattle.ipdl_chain.specs.Views.{chain_of}
 use Rattle.ipdl_chain.specs.declared.chain.Chain.{Chain as HeldChain}
 use Rattle.ipdl_forms.specs.Documents.{document_of}
 use Rattle.ipdl_forms.specs.declared.document.TheoremItem.{TheoremItem}
-use Rattle.ipdl_rules_r.specs.TruthTests.{abstract_symbol, too_large, too_wide, differ_at}
+use Rattle.ipdl_rules_r.specs.TruthTests.{abstract_symbol, too_large, too_wide, differ_at, other_forms}
 use Rattle.ipdl_script.specs.Known.{Proved}
 use Rattle.ipdl_script.specs.Scripts.{Theorem, Side, left_side, right_side, Wrong, wrong_step, wrong_ends}
 use Rattle.ipdl_script.specs.Steps.{Setting, Refusal, no_place, no_variable, no_match, side_fails, not_result, ill_typed, untrue, no_channel, not_injective, captured, no_port}
@@ -59,6 +59,7 @@ refusal_of (C.Abstract symbol) = untrue (abstract_symbol symbol)
 refusal_of (C.Large bits) = untrue (too_large bits)
 refusal_of (C.TooWide bits) = untrue (too_wide bits)
 refusal_of (C.NotSame valuation) = untrue (differ_at valuation)
+refusal_of (C.NotForm bit) = untrue (other_forms bit)
 refusal_of (C.NoChannel c) = no_channel c
 refusal_of (C.NotInjective c d) = not_injective c d
 refusal_of (C.Capture c) = captured c

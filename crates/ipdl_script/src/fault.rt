@@ -51,6 +51,9 @@ pub enum Cause {
     /// variables: the depth of each, which is 0 for that of the outermost binder, and its value, the
     /// outermost first.
     NotSame { valuation: List<(u32, Bits)> },
+    /// The linear forms of the two expressions differ, first in this bit, or this is the smaller width
+    /// where the widths differ and all bits that both have agree.
+    NotForm { bit: u8 },
 }
 
 /// Why a step gives no term.

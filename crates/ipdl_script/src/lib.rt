@@ -14,6 +14,7 @@ mod known_named;
 mod limits;
 mod marks;
 mod new_part;
+mod normal_forms;
 mod setting;
 mod sides;
 mod spot;

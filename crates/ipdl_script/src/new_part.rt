@@ -2,12 +2,10 @@
 
 ghost use Rattle.std.specs.Prelude.{◌≡◌, ◌≤◌, [], ℕ, None, Some, IfOk, OnOk};
 ghost use Rattle.ipdl_cursor.specs.Views.{part_of};
-ghost use Rattle.ipdl_rules_p.specs.Matching as P;
 ghost use Rattle.ipdl_rules_p.specs.Room as ProtoRoom;
-ghost use Rattle.ipdl_rules_r.specs.Matching as Q;
 ghost use Rattle.ipdl_rules_r.specs.Room.{HasRoom};
 ghost use Rattle.ipdl_script.specs.Fitting.{WholeFits, StepFits};
-ghost use Rattle.ipdl_script.specs.Instances.{answer_at, answer_of_protocols, answer_of_reactions, gives};
+ghost use Rattle.ipdl_script.specs.Instances.{answer_at, gives, protocol_answer, reaction_answer};
 ghost use Rattle.ipdl_script.specs.Settling.{settled_rule, unsettled_in_arguments};
 ghost use Rattle.ipdl_script.specs.Steps.{around_place};
 ghost use Rattle.ipdl_script.specs.TestGroups.{AnswersTest, HasRoomFor, IsChanged, answer_refusal, change_refusal, part_refusal, written_answer};
@@ -38,10 +36,10 @@ use std::alloc::Global;
 // The right side of the settled rule for the protocol, as a part.
 fn protocol_part(alloc: Global, rule: &Rule, term: &Proto) -> Result<Box<Part>, StepFault>
     requires { ProtoRoom.HasRoom (rule_of rule.now) (protocol_of term.now) }
-    ensures test { (depth : ℕ) → AnswersTest result (answer_refusal (answer_of_protocols
-        (P.answer (settled_rule depth (rule_of rule.now)) (protocol_of term.now)))) }
-    ensures value { (depth : ℕ) → IfOk result (λ right. answer_of_protocols
-        (P.answer (settled_rule depth (rule_of rule.now)) (protocol_of term.now)) ≡ gives (term_of right.value)) }
+    ensures test { (depth : ℕ) → AnswersTest result
+        (answer_refusal (protocol_answer (settled_rule depth (rule_of rule.now)) (protocol_of term.now))) }
+    ensures value { (depth : ℕ) → IfOk result (λ right.
+        protocol_answer (settled_rule depth (rule_of rule.now)) (protocol_of term.now) ≡ gives (term_of right.value)) }
 {
     let right = protocol_side(alloc, rule, term)?;
     Ok(boxed(alloc, Ok(Part::P(right)))?)
@@ -58,10 +56,10 @@ fn reaction_part(
     requires depth { depth ≤ most_nodes }
     requires bound { unsettled_in_arguments depth (rule_arguments (rule_of rule.now)) ≡ None }
     requires room { HasRoom (settled_rule depth (rule_of rule.now)) (reaction_of term.now) }
-    ensures test { AnswersTest result (answer_refusal (answer_of_reactions (Q.answer (signature_of sig.now)
-        (settled_rule depth (rule_of rule.now)) (reaction_of term.now)))) }
-    ensures value { IfOk result (λ right. answer_of_reactions (Q.answer (signature_of sig.now)
-        (settled_rule depth (rule_of rule.now)) (reaction_of term.now)) ≡ gives (term_of right.value)) }
+    ensures test { AnswersTest result (answer_refusal (reaction_answer (signature_of sig.now)
+        (settled_rule depth (rule_of rule.now)) (reaction_of term.now))) }
+    ensures value { IfOk result (λ right. reaction_answer (signature_of sig.now)
+        (settled_rule depth (rule_of rule.now)) (reaction_of term.now) ≡ gives (term_of right.value)) }
 {
     let right = reaction_side(alloc, sig, depth, rule, term)?;
     Ok(boxed(alloc, Ok(Part::R(right)))?)
@@ -127,9 +125,9 @@ fn check_protocol(
     ensures test { (depth : ℕ) → AnswersTest result (change_refusal
         (rev [] (settled_rule depth (rule_of rule.now)) (protocol_term (protocol_of written.now)))
         (Some (protocol_term (protocol_of part.now)))
-        (answer_of_protocols (P.answer (settled_rule depth (rule_of rule.now)) (protocol_of written.now)))) }
+        (protocol_answer (settled_rule depth (rule_of rule.now)) (protocol_of written.now))) }
     ensures value { (depth : ℕ) → OnOk result
-        (answer_of_protocols (P.answer (settled_rule depth (rule_of rule.now)) (protocol_of written.now))
+        (protocol_answer (settled_rule depth (rule_of rule.now)) (protocol_of written.now)
         ≡ gives (protocol_term (protocol_of part.now))) }
 {
     let right = protocol_side(alloc, rule, written)?;
@@ -155,9 +153,9 @@ fn check_reaction(
     ensures test { AnswersTest result (change_refusal
         (rev [] (settled_rule depth (rule_of rule.now)) (reaction_term (reaction_of written.now)))
         (Some (reaction_term (reaction_of part.now)))
-        (answer_of_reactions (Q.answer (signature_of sig.now) (settled_rule depth (rule_of rule.now)) (reaction_of written.now)))) }
-    ensures value { OnOk result (answer_of_reactions
-        (Q.answer (signature_of sig.now) (settled_rule depth (rule_of rule.now)) (reaction_of written.now))
+        (reaction_answer (signature_of sig.now) (settled_rule depth (rule_of rule.now)) (reaction_of written.now))) }
+    ensures value { OnOk result
+        (reaction_answer (signature_of sig.now) (settled_rule depth (rule_of rule.now)) (reaction_of written.now)
         ≡ gives (reaction_term (reaction_of part.now))) }
 {
     let made = reaction_side(alloc, sig, depth, rule, written)?;

@@ -1,11 +1,11 @@
-//! The right sides of rules at a protocol and at a reaction.
+//! The right sides of rules at a protocol and at a reaction, normal forms among them.
 
 ghost use Rattle.std.specs.Prelude.{◌≡◌, ◌≤◌, ◌+◌, ℕ, IfOk, None};
 ghost use Rattle.ipdl_rules_p.specs.Matching as P;
 ghost use Rattle.ipdl_rules_p.specs.Room as ProtoRoom;
 ghost use Rattle.ipdl_rules_r.specs.Matching as Q;
 ghost use Rattle.ipdl_rules_r.specs.Room.{HasRoom};
-ghost use Rattle.ipdl_script.specs.Instances.{answer_of_protocols, answer_of_reactions, gives};
+ghost use Rattle.ipdl_script.specs.Instances.{answer_of_protocols, answer_of_reactions, gives, protocol_answer, reaction_answer};
 ghost use Rattle.ipdl_script.specs.Settling.{settled_rule, unsettled_in_arguments};
 ghost use Rattle.ipdl_script.specs.TestGroups.{AnswersTest, answer_refusal};
 ghost use Rattle.ipdl_term.specs.Rules as R;
@@ -18,6 +18,7 @@ ghost use Rattle.ipdl_term.specs.Views.{expression_of, protocol_of, reaction_of}
 ghost use Rattle.ipdl_typing.specs.Signatures.{signature_of};
 
 use crate::fault::{Cause, StepFault};
+use crate::normal_forms::{shape_side, tidy_side};
 use crate::variables::settled_argument;
 use ipdl_base::Limit;
 use ipdl_rules_p::{RuleFault as ProtoFault, apply_proto};
@@ -48,13 +49,16 @@ fn applied(alloc: Global, rule: &Rule, term: &Proto) -> Result<Proto, StepFault>
 // The right side of the settled rule for the protocol. Such a rule has no argument to be settled.
 pub(crate) fn protocol_side(alloc: Global, rule: &Rule, term: &Proto) -> Result<Proto, StepFault>
     requires { ProtoRoom.HasRoom (rule_of rule.now) (protocol_of term.now) }
-    ensures test { (depth : ℕ) → AnswersTest result (answer_refusal (answer_of_protocols
-        (P.answer (settled_rule depth (rule_of rule.now)) (protocol_of term.now)))) }
-    ensures value { (depth : ℕ) → IfOk result (λ right. answer_of_protocols
-        (P.answer (settled_rule depth (rule_of rule.now)) (protocol_of term.now))
+    ensures test { (depth : ℕ) → AnswersTest result
+        (answer_refusal (protocol_answer (settled_rule depth (rule_of rule.now)) (protocol_of term.now))) }
+    ensures value { (depth : ℕ) → IfOk result (λ right.
+        protocol_answer (settled_rule depth (rule_of rule.now)) (protocol_of term.now)
         ≡ gives (protocol_term (protocol_of right))) }
 {
-    applied(alloc, rule, term)
+    match rule {
+        Rule::Shape => shape_side(alloc, term),
+        _ => applied(alloc, rule, term),
+    }
 }
 
 // ---- at a reaction
@@ -115,14 +119,15 @@ pub(crate) fn reaction_side(
     requires depth { depth ≤ most_nodes }
     requires bound { unsettled_in_arguments depth (rule_arguments (rule_of rule.now)) ≡ None }
     requires room { HasRoom (settled_rule depth (rule_of rule.now)) (reaction_of term.now) }
-    ensures test { AnswersTest result (answer_refusal (answer_of_reactions (Q.answer (signature_of sig.now)
-        (settled_rule depth (rule_of rule.now)) (reaction_of term.now)))) }
-    ensures value { IfOk result (λ right. answer_of_reactions (Q.answer (signature_of sig.now)
-        (settled_rule depth (rule_of rule.now)) (reaction_of term.now))
+    ensures test { AnswersTest result (answer_refusal (reaction_answer (signature_of sig.now)
+        (settled_rule depth (rule_of rule.now)) (reaction_of term.now))) }
+    ensures value { IfOk result (λ right. reaction_answer (signature_of sig.now)
+        (settled_rule depth (rule_of rule.now)) (reaction_of term.now)
         ≡ gives (reaction_term (reaction_of right))) }
 {
     match rule {
         Rule::Mask(e) => masked(alloc, sig, depth, e, term),
+        Rule::Tidy => tidy_side(alloc, term),
         _ => applied_react(alloc, sig, rule, term),
     }
 }

@@ -1,4 +1,5 @@
-//! What `table` answers at an expression: its own expression, where so many conditions are around.
+//! What `table` and `lin` answer at an expression: their own expression, for `table` where so many
+//! conditions are around.
 
 ghost use Rattle.std.specs.Prelude.{◌≡◌, ◌≤◌, IfOk, None, Some, length, map, nat_le, reverse};
 ghost use Rattle.ipdl_cursor.specs.Views.{part_of};
@@ -111,6 +112,18 @@ fn table_side(
     settled_part(alloc, depth, e)
 }
 
+// The right side of `lin`.
+fn lin_side(alloc: Global, depth: u32, e: &Expr) -> Result<Box<Part>, StepFault>
+    requires { unsettled_in_expression depth (expression_of e.now) ≡ None }
+    ensures test { AnswersTest result (answer_refusal (gives
+        (expression_term (settled_expression depth (expression_of e.now))))) }
+    ensures value { IfOk result (λ right. gives (expression_term (settled_expression depth (expression_of e.now)))
+        ≡ gives (term_of right.value)) }
+{
+    check_nodes(e)?;
+    settled_part(alloc, depth, e)
+}
+
 // The right side of the settled rule for whatever expression stands at the place, around which so
 // many binders are.
 pub(crate) fn expression_side(
@@ -132,6 +145,7 @@ pub(crate) fn expression_side(
 {
     match rule {
         Rule::Table(wanted, e) => table_side(alloc, setting, before, path, depth, *wanted, e),
+        Rule::Lin(e) => lin_side(alloc, depth, e),
         _ => Err(StepFault::Refused(Cause::NoMatch)),
     }
 }

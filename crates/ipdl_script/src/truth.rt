@@ -1,8 +1,9 @@
-//! The truth that a step asks for: that the expression at its place and the new one are equal there.
+//! The truth that a step asks for: that the expression at its place and the new one are equal there,
+//! or have the same linear forms.
 
 ghost use Rattle.std.specs.Prelude.{◌≡◌, ◌≤◌, ℕ, Err, IfOk, None, Option, length, map, option_map, reverse, take};
-ghost use Rattle.ipdl_rules_r.specs.Expressions.{question_at};
-ghost use Rattle.ipdl_rules_r.specs.TruthTests.{TellsTruth, TruthRefusal, truth_refusal};
+ghost use Rattle.ipdl_rules_r.specs.Expressions.{pair_at, question_at};
+ghost use Rattle.ipdl_rules_r.specs.TruthTests.{TellsTruth, TruthRefusal, form_refusal, truth_refusal};
 ghost use Rattle.ipdl_script.specs.Answers.{TellsRefusal};
 ghost use Rattle.ipdl_script.specs.Fitting.{WholeFits};
 ghost use Rattle.ipdl_script.specs.Steps.{after_step, untrue};
@@ -39,6 +40,7 @@ fn truth_fault(fault: ExprFault) -> StepFault
         ExprFault::Large { bits } => StepFault::Refused(Cause::Large { bits }),
         ExprFault::TooWide { bits } => StepFault::Refused(Cause::TooWide { bits }),
         ExprFault::NotSame { valuation } => StepFault::Refused(Cause::NotSame { valuation }),
+        ExprFault::NotForm { bit } => StepFault::Refused(Cause::NotForm { bit }),
         ExprFault::Memory => StepFault::Memory,
     }
 }
@@ -52,6 +54,17 @@ fn settled_table(alloc: Global, depth: u32, k: u32, e: &Expr) -> Result<Box<Rule
 {
     let settled = settled_argument(alloc, depth, e)?;
     Ok(boxed(alloc, Ok(Rule::Table(k, settled)))?)
+}
+
+// `lin` with its argument settled.
+fn settled_lin(alloc: Global, depth: u32, e: &Expr) -> Result<Box<Rule>, StepFault>
+    requires { unsettled_in_expression depth (expression_of e.now) ≡ None }
+    ensures test { AnswersTest result None }
+    ensures value { IfOk result (λ rule.
+        rule_of rule.value ≡ R.lin (settled_expression depth (expression_of e.now))) }
+{
+    let settled = settled_argument(alloc, depth, e)?;
+    Ok(boxed(alloc, Ok(Rule::Lin(settled)))?)
 }
 
 // Checks that the two expressions are equal where the innermost conditions are met, as many as the
@@ -84,6 +97,31 @@ fn check_same(
     }
 }
 
+// Checks that the two expressions have the same linear forms.
+fn check_alike(
+    alloc: Global,
+    sig: &Sig,
+    found: &Found<'_>,
+    e: &Expr,
+    old: &Expr,
+) -> Result<(), StepFault>
+    requires few { length found.now.widths ≤ most_nodes }
+    requires bound { unsettled_in_expression (length found.now.widths) (expression_of e.now) ≡ None }
+    requires old { (w : ℕ) × HasWidth (signature_of sig.now) (reverse found.now.widths) (expression_of old.now) w }
+    requires new { (w : ℕ) × HasWidth (signature_of sig.now) (reverse found.now.widths)
+        (settled_expression (length found.now.widths) (expression_of e.now)) w }
+    ensures { AnswersTest result (option_map untrue (form_refusal (pair_at (signature_of sig.now)
+        (reverse found.now.widths) (expression_of old.now)
+        (settled_expression (length found.now.widths) (expression_of e.now))))) }
+{
+    let widths = found.widths.as_slice();
+    let rule = settled_lin(alloc, widths.len() as u32, e)?;
+    match apply_expr(alloc, sig, widths, found.conditions.as_slice(), &rule, old) {
+        Ok(()) => Ok(()),
+        Err(fault) => Err(truth_fault(fault)),
+    }
+}
+
 // Checks the truth that `table` asks for.
 fn check_table(
     alloc: Global,
@@ -109,6 +147,30 @@ fn check_table(
     }
 }
 
+// Checks the linear forms that `lin` compares.
+fn check_lin(
+    alloc: Global,
+    setting: &Setting<'_>,
+    before: &Proto,
+    path: &Path,
+    e: &Expr,
+) -> Result<(), StepFault>
+    requires whole { WholeFits (setting_of setting.now) (protocol_of before.now) }
+    requires passed { part_refusal (setting_of setting.now) (protocol_of before.now)
+        (plain path.now (R.lin (expression_of e.now))) ≡ None }
+    requires typed { HasInterface (signature_of setting.now.sig.now) setting.now.interface.now
+        (after_step (setting_of setting.now) (protocol_of before.now)
+        (plain path.now (R.lin (expression_of e.now)))) }
+    ensures { AnswersTest result (truth_there (setting_of setting.now) (protocol_of before.now)
+        (plain path.now (R.lin (expression_of e.now)))) }
+{
+    let found = surroundings(alloc, setting, before, path)?;
+    match found.part {
+        PartRef::E(old) => check_alike(alloc, setting.sig, &found, e, old),
+        PartRef::P(_) | PartRef::R(_) => Ok(()),
+    }
+}
+
 // Checks the truth that the rule of the step asks for, where all other tests pass.
 pub(crate) fn check_truth(
     alloc: Global,
@@ -128,6 +190,10 @@ pub(crate) fn check_truth(
             path,
             rule: Rule::Table(k, e),
         } => check_table(alloc, setting, before, path, *k, e),
+        Step::Plain {
+            path,
+            rule: Rule::Lin(e),
+        } => check_lin(alloc, setting, before, path, e),
         _ => Ok(()),
     }
 }

@@ -7,10 +7,8 @@ pub mod Fitting
 pub mod WholeTables
 pub mod Meanings
 pub mod Readiness
-pub mod Built
 pub mod Theorems
 pub mod Checked
-pub mod ItemOffsets
 pub mod Spelled
 pub mod Counts
 pub mod Texts

@@ -96,10 +96,10 @@ source_and_document d t bytes r (inr within) few document = within_and_document 
 
 -- ---- a document has one reply at most
 
-pub request_is_owed : (request : Request) (d : Document) (t : Located) → IsOwed (IsRequestRefusal request d t) (IsAnswer request d)
-request_is_owed check d t = check_is_owed d t
-request_is_owed types d t = types_is_owed d t
-request_is_owed (run_item name tape order) d t = run_is_owed name tape d
+pub request_is_owed : (request : Request) (d : Document) → IsOwed (IsRequestRefusal request d) (IsAnswer request d)
+request_is_owed check d = check_is_owed d
+request_is_owed types d = types_is_owed d
+request_is_owed (run_item name tape order) d = run_is_owed name tape d
 
 typed_answer : (request : Request) (d : Document) (text : List ℕ) → IsAnswer request d text → IsTypedDocument d
 typed_answer check d text answer = answer.typed
@@ -109,32 +109,31 @@ typed_answer (run_item name tape order) d text answer = answer.typed
 ill_and_typed : (d : Document) (r : Refusal) → IsIll d r → IsTypedDocument d → ⊥
 ill_and_typed d r ill typed = none_and_some r (type_refusal-typed d typed) ill
 
-one_refused_document : (request : Request) (d : Document) (t : Located) (r s : Refusal) → IsRefusedDocument request d t r → IsRefusedDocument request d t s → r ≡ s
-one_refused_document request d t r s (inl ill) (inl ill') = same_value r s ill ill'
-one_refused_document request d t r s (inl ill) (inr (typed, refuses)) = absurd (ill_and_typed d r ill typed)
-one_refused_document request d t r s (inr (typed, refuses)) (inl ill) = absurd (ill_and_typed d s ill typed)
-one_refused_document request d t r s (inr (typed, refuses)) (inr (typed', refuses')) =
-    (request_is_owed request d t).one_refusal r s refuses refuses'
+one_refused_document : (request : Request) (d : Document) (r s : Refusal) → IsRefusedDocument request d r → IsRefusedDocument request d s → r ≡ s
+one_refused_document request d r s (inl ill) (inl ill') = same_value r s ill ill'
+one_refused_document request d r s (inl ill) (inr (typed, refuses)) = absurd (ill_and_typed d r ill typed)
+one_refused_document request d r s (inr (typed, refuses)) (inl ill) = absurd (ill_and_typed d s ill typed)
+one_refused_document request d r s (inr (typed, refuses)) (inr (typed', refuses')) =
+    (request_is_owed request d).one_refusal r s refuses refuses'
 
-refused_and_answered : (request : Request) (d : Document) (t : Located) (r : Refusal) (text : List ℕ) → IsRefusedDocument request d t r → IsAnswer request d text → ⊥
-refused_and_answered request d t r text (inl ill) answer = ill_and_typed d r ill (typed_answer request d text answer)
-refused_and_answered request d t r text (inr (typed, refuses)) answer = (request_is_owed request d t).not_both r text refuses answer
+refused_and_answered : (request : Request) (d : Document) (r : Refusal) (text : List ℕ) → IsRefusedDocument request d r → IsAnswer request d text → ⊥
+refused_and_answered request d r text (inl ill) answer = ill_and_typed d r ill (typed_answer request d text answer)
+refused_and_answered request d r text (inr (typed, refuses)) answer = (request_is_owed request d).not_both r text refuses answer
 
-one_reply_by : (request : Request) (d : Document) (t : Located) (r s : Reply) → IsReplyBy (IsRefusedDocument request d t) (IsAnswer request d) r → IsReplyBy (IsRefusedDocument request d t) (IsAnswer request d) s → r ≡ s
-one_reply_by request d t r s (inl (a, refuses, is)) (inl (b, refuses', is')) =
-    is ∙ ap refused (one_refused_document request d t a b refuses refuses') ∙ sym is'
-one_reply_by request d t r s (inl (a, refuses, is)) (inr (text, answers, is')) = absurd (refused_and_answered request d t a text refuses answers)
-one_reply_by request d t r s (inr (text, answers, is)) (inl (b, refuses, is')) = absurd (refused_and_answered request d t b text refuses answers)
-one_reply_by request d t r s (inr (text, answers, is)) (inr (other, answers', is')) =
-    is ∙ ap accepted ((request_is_owed request d t).one_text text other answers answers') ∙ sym is'
+one_reply_by : (request : Request) (d : Document) (r s : Reply) → IsReplyBy (IsRefusedDocument request d) (IsAnswer request d) r → IsReplyBy (IsRefusedDocument request d) (IsAnswer request d) s → r ≡ s
+one_reply_by request d r s (inl (a, refuses, is)) (inl (b, refuses', is')) =
+    is ∙ ap refused (one_refused_document request d a b refuses refuses') ∙ sym is'
+one_reply_by request d r s (inl (a, refuses, is)) (inr (text, answers, is')) = absurd (refused_and_answered request d a text refuses answers)
+one_reply_by request d r s (inr (text, answers, is)) (inl (b, refuses, is')) = absurd (refused_and_answered request d b text refuses answers)
+one_reply_by request d r s (inr (text, answers, is)) (inr (other, answers', is')) =
+    is ∙ ap accepted ((request_is_owed request d).one_text text other answers answers') ∙ sym is'
 
 -- what is spelled is one tree and one document
-one_document_of : (request : Request) (d e : Document) (t u : Located) (bytes : List ℕ) (s : Reply) → IsDocument d t bytes → IsDocument e u bytes → IsReplyBy (IsRefusedDocument request e u) (IsAnswer request e) s → IsReplyBy (IsRefusedDocument request d t) (IsAnswer request d) s
+one_document_of : (request : Request) (d e : Document) (t u : Located) (bytes : List ℕ) (s : Reply) → IsDocument d t bytes → IsDocument e u bytes → IsReplyBy (IsRefusedDocument request e) (IsAnswer request e) s → IsReplyBy (IsRefusedDocument request d) (IsAnswer request d) s
 one_document_of request d e t u bytes s document document' reply =
     let trees : u ≡ t = one_tree u t bytes document'.tree.spelled document.tree.spelled in
     let documents : e ≡ d = one_document e d t (subst (λ v. SpellsDocument e v) trees document'.spelled) document.spelled in
-    subst (λ f. IsReplyBy (IsRefusedDocument request f t) (IsAnswer request f) s) documents
-    (subst (λ v. IsReplyBy (IsRefusedDocument request e v) (IsAnswer request e) s) trees reply)
+    subst (λ f. IsReplyBy (IsRefusedDocument request f) (IsAnswer request f) s) documents reply
 
 one_reply_to : (request : Request) (bytes : List ℕ) (r s : Reply) → IsReplyTo request bytes r → IsReplyTo request bytes s → r ≡ s
 one_reply_to request bytes r s (inl (a, refuses, is)) (inl (b, refuses', is')) =
@@ -142,7 +141,7 @@ one_reply_to request bytes r s (inl (a, refuses, is)) (inl (b, refuses', is')) =
 one_reply_to request bytes r s (inl (a, refuses, is)) (inr (few, (t, d, document, reply))) = absurd (source_and_document d t bytes a refuses few document)
 one_reply_to request bytes r s (inr (few, (t, d, document, reply))) (inl (b, refuses, is)) = absurd (source_and_document d t bytes b refuses few document)
 one_reply_to request bytes r s (inr (few, (t, d, document, reply))) (inr (few', (u, e, document', reply'))) =
-    one_reply_by request d t r s reply (one_document_of request d e t u bytes s document document' reply')
+    one_reply_by request d r s reply (one_document_of request d e t u bytes s document document' reply')
 
 pub one_reply : (words : List (List ℕ)) (bytes : List ℕ) (r s : Reply) → IsReply words bytes r → IsReply words bytes s → r ≡ s
 one_reply words bytes r s (inl usage) (inl usage') = usage.1 ∙ sym usage'.1

@@ -39,25 +39,25 @@ refused_source request bytes r is = (refused r, inl (r, is, refl))
 -- ---- a document
 
 -- what is asked of a document whose items are well typed is refused or answered
-asked : (request : Request) (d : Document) (t : Located) (bytes : List ℕ) → IsDocument d t bytes → IsTypedDocument d → IsThereOne (IsRequestRefusal request d t) (IsAnswer request d)
-asked check d t bytes document typed = check_is_there d t (HaveSides-spelled d t document.spelled) typed
-asked types d t bytes document typed = types_is_there d t typed
+asked : (request : Request) (d : Document) (t : Located) (bytes : List ℕ) → IsDocument d t bytes → IsTypedDocument d → IsThereOne (IsRequestRefusal request d) (IsAnswer request d)
+asked check d t bytes document typed = check_is_there d (HaveSides-spelled d t document.spelled) typed
+asked types d t bytes document typed = types_is_there d typed
 asked (run_item name tape order) d t bytes document typed = run_is_there name tape d typed
 
-typed_document : (request : Request) (d : Document) (t : Located) → IsTypedDocument d → IsThereOne (IsRequestRefusal request d t) (IsAnswer request d) → (reply : Reply) × IsReplyBy (IsRefusedDocument request d t) (IsAnswer request d) reply
-typed_document request d t typed (inl (r, refuses)) = (refused r, inl (r, inr (typed, refuses), refl))
-typed_document request d t typed (inr (text, answers)) = (accepted text, inr (text, answers, refl))
+typed_document : (request : Request) (d : Document) → IsTypedDocument d → IsThereOne (IsRequestRefusal request d) (IsAnswer request d) → (reply : Reply) × IsReplyBy (IsRefusedDocument request d) (IsAnswer request d) reply
+typed_document request d typed (inl (r, refuses)) = (refused r, inl (r, inr (typed, refuses), refl))
+typed_document request d typed (inr (text, answers)) = (accepted text, inr (text, answers, refl))
 
-document : (request : Request) (d : Document) (t : Located) (bytes : List ℕ) → IsDocument d t bytes → (reply : Reply) × IsReplyBy (IsRefusedDocument request d t) (IsAnswer request d) reply
+document : (request : Request) (d : Document) (t : Located) (bytes : List ℕ) → IsDocument d t bytes → (reply : Reply) × IsReplyBy (IsRefusedDocument request d) (IsAnswer request d) reply
 document request d t bytes is = by_type (type_refusal d) refl
   where
-    by_type : (ill : Option Refusal) → type_refusal d ≡ ill → (reply : Reply) × IsReplyBy (IsRefusedDocument request d t) (IsAnswer request d) reply
+    by_type : (ill : Option Refusal) → type_refusal d ≡ ill → (reply : Reply) × IsReplyBy (IsRefusedDocument request d) (IsAnswer request d) reply
     by_type (Some r) e = (refused r, inl (r, inl e, refl))
     by_type None e =
         let typed = IsTypedDocument-none d (HaveSides-spelled d t is.spelled) e in
-        typed_document request d t typed (asked request d t bytes is typed)
+        typed_document request d typed (asked request d t bytes is typed)
 
-of_document : (request : Request) (d : Document) (t : Located) (bytes : List ℕ) → length bytes ≤ source_limit → IsDocument d t bytes → (reply : Reply) × IsReplyBy (IsRefusedDocument request d t) (IsAnswer request d) reply → HasReplyTo request bytes
+of_document : (request : Request) (d : Document) (t : Located) (bytes : List ℕ) → length bytes ≤ source_limit → IsDocument d t bytes → (reply : Reply) × IsReplyBy (IsRefusedDocument request d) (IsAnswer request d) reply → HasReplyTo request bytes
 of_document request d t bytes few is (reply, by) = (reply, inr (few, (t, d, is, by)))
 
 -- ---- a tree

@@ -42,29 +42,29 @@ Settles-weaker (Err Memory) P Q A B f g is = tt
 
 -- ---- documents
 
-pub Settles-check : (d : Document) (t : Located) (result : Result (Vec ℕ) Stop) → SpellsDocument d t → IsTypedDocument d → Tests result (script_refusal d t) → IfOk result (λ (text : Vec ℕ). text.items ≡ proved_text d) → Settles result (IsCheckRefusal d t) (IsCheckAnswer d)
+pub Settles-check : (d : Document) (t : Located) (result : Result (Vec ℕ) Stop) → SpellsDocument d t → IsTypedDocument d → Tests result (script_refusal d) → IfOk result (λ (text : Vec ℕ). text.items ≡ proved_text d) → Settles result (IsCheckRefusal d) (IsCheckAnswer d)
 Settles-check d t (Ok text) spelled typed tests written =
-    IsCheckAnswer-none d t text.items (HaveSides-spelled d t spelled) typed tests written
+    IsCheckAnswer-none d text.items (HaveSides-spelled d t spelled) typed tests written
 Settles-check d t (Err (Refused held)) spelled typed tests written = tests
 Settles-check d t (Err Memory) spelled typed tests written = tt
 
-pub Settles-types : (d : Document) (t : Located) (result : Result (Vec ℕ) Stop) → IsTypedDocument d → IfOk result (λ (text : Vec ℕ). text.items ≡ summary_text d) → IfErr result (λ stop. stop ≡ Memory) → Settles result (IsTypesRefusal d t) (IsTypesAnswer d)
-Settles-types d t (Ok text) typed written memory = record { typed = typed; written = written }
-Settles-types d t (Err (Refused held)) typed written memory = absurd (let e = memory in cc)
-Settles-types d t (Err Memory) typed written memory = tt
+pub Settles-types : (d : Document) (result : Result (Vec ℕ) Stop) → IsTypedDocument d → IfOk result (λ (text : Vec ℕ). text.items ≡ summary_text d) → IfErr result (λ stop. stop ≡ Memory) → Settles result (IsTypesRefusal d) (IsTypesAnswer d)
+Settles-types d (Ok text) typed written memory = record { typed = typed; written = written }
+Settles-types d (Err (Refused held)) typed written memory = absurd (let e = memory in cc)
+Settles-types d (Err Memory) typed written memory = tt
 
 -- what is said of one request is said of the same one
-pub Settles-at : (asked other : Asked) (d : Document) (t : Located) (result : Result (Vec ℕ) Stop) → asked ≡ other → Settles result (IsRequestRefusal (request_of other) d t) (IsAnswer (request_of other) d) → Settles result (IsRequestRefusal (request_of asked) d t) (IsAnswer (request_of asked) d)
-Settles-at asked other d t result e is =
-    subst (λ (a : Asked). Settles result (IsRequestRefusal (request_of a) d t) (IsAnswer (request_of a) d)) (sym e) is
+pub Settles-at : (asked other : Asked) (d : Document) (result : Result (Vec ℕ) Stop) → asked ≡ other → Settles result (IsRequestRefusal (request_of other) d) (IsAnswer (request_of other) d) → Settles result (IsRequestRefusal (request_of asked) d) (IsAnswer (request_of asked) d)
+Settles-at asked other d result e is =
+    subst (λ (a : Asked). Settles result (IsRequestRefusal (request_of a) d) (IsAnswer (request_of a) d)) (sym e) is
 
-pub Settles-ill : (request : Request) (d : Document) (t : Located) (stop : Stop) → IsStop stop (type_refusal d) → Settles (Err stop) (IsRefusedDocument request d t) (IsAnswer request d)
-Settles-ill request d t (Refused held) is = inl is
-Settles-ill request d t Memory is = tt
+pub Settles-ill : (request : Request) (d : Document) (stop : Stop) → IsStop stop (type_refusal d) → Settles (Err stop) (IsRefusedDocument request d) (IsAnswer request d)
+Settles-ill request d (Refused held) is = inl is
+Settles-ill request d Memory is = tt
 
-pub Settles-asked : (request : Request) (d : Document) (t : Located) (result : Result (Vec ℕ) Stop) → IsTypedDocument d → Settles result (IsRequestRefusal request d t) (IsAnswer request d) → Settles result (IsRefusedDocument request d t) (IsAnswer request d)
-Settles-asked request d t result typed =
-    Settles-weaker result (IsRequestRefusal request d t) (IsRefusedDocument request d t) (IsAnswer request d) (IsAnswer request d)
+pub Settles-asked : (request : Request) (d : Document) (result : Result (Vec ℕ) Stop) → IsTypedDocument d → Settles result (IsRequestRefusal request d) (IsAnswer request d) → Settles result (IsRefusedDocument request d) (IsAnswer request d)
+Settles-asked request d result typed =
+    Settles-weaker result (IsRequestRefusal request d) (IsRefusedDocument request d) (IsAnswer request d) (IsAnswer request d)
     (λ r refuses. inr (typed, refuses)) (λ text answers. answers)
 
 -- ---- sources
@@ -115,8 +115,8 @@ Settles-faulty request bytes t fault stop few spelled shallow first e = subst (�
     by_fault (F.Over limit pos) is =
         refused_within request bytes _ few (inr (t, record { spelled = spelled; shallow = shallow }, inr (pos.0, limit, is.told (λ m. cc), refl)))
 
-pub Settles-document : (request : Request) (bytes : List ℕ) (t : Located) (d : Document) (result : Result (Vec ℕ) Stop) → length bytes ≤ source_limit → IsDocument d t bytes → Settles result (IsRefusedDocument request d t) (IsAnswer request d) → Settles result (λ r. IsReplyTo request bytes (refused r)) (λ text. IsReplyTo request bytes (accepted text))
+pub Settles-document : (request : Request) (bytes : List ℕ) (t : Located) (d : Document) (result : Result (Vec ℕ) Stop) → length bytes ≤ source_limit → IsDocument d t bytes → Settles result (IsRefusedDocument request d) (IsAnswer request d) → Settles result (λ r. IsReplyTo request bytes (refused r)) (λ text. IsReplyTo request bytes (accepted text))
 Settles-document request bytes t d result few document =
-    Settles-weaker result (IsRefusedDocument request d t) (λ r. IsReplyTo request bytes (refused r)) (IsAnswer request d) (λ text. IsReplyTo request bytes (accepted text))
+    Settles-weaker result (IsRefusedDocument request d) (λ r. IsReplyTo request bytes (refused r)) (IsAnswer request d) (λ text. IsReplyTo request bytes (accepted text))
     (λ r refuses. inr (few, (t, d, document, inl (r, refuses, refl))))
     (λ text answers. inr (few, (t, d, document, inr (text, answers, refl))))

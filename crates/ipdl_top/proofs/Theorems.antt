@@ -16,8 +16,6 @@ use Rattle.ipdl_script.specs.Known.{Proved}
 use Rattle.ipdl_script.specs.Scripts.{first_wrong}
 use Rattle.ipdl_sig.specs.declared.symbol.Symbol.{Symbol}
 use Rattle.ipdl_term.specs.Steps.{Step}
-use Rattle.ipdl_tree.specs.Trees.{Located}
-use Rattle.ipdl_top.proofs.Built.{built_scripts}
 use Rattle.ipdl_top.proofs.Firsts.{neither, no_first}
 use Rattle.ipdl_top.proofs.ItemTypes.{passed, not_refused}
 use Rattle.ipdl_top.proofs.Named.{HasSides, HaveSides}
@@ -25,19 +23,10 @@ use Rattle.ipdl_top.proofs.Stops.{IsStop-first, IsStop-same}
 use Rattle.ipdl_top.specs.Chains.{Claim, claim_between, claim_chain, theorems_with, theorems_after, theorems_before, claim_text, item_neighbours, items_neighbours, item_text, items_text, theorem_count, chains_text, proved_text}
 use Rattle.ipdl_forms.specs.Networks.{Network, network_named}
 use Rattle.ipdl_top.specs.Refusals.{first_refusal}
-use Rattle.ipdl_top.specs.Scripts.{are_built_steps, item_offset, wrong_refusal, length_refusal, claim_refusal, theorem_refusal, judged_by_script, script_refusal, HasChain, IsProvedItem, AreProved, IsProvedDocument, HasShortChains}
+use Rattle.ipdl_top.specs.Scripts.{wrong_refusal, length_refusal, claim_refusal, theorem_refusal, judged_by_script, script_refusal, HasChain, IsProvedItem, AreProved, IsProvedDocument, HasShortChains}
 use Rattle.ipdl_top.specs.Statuses.{Refusal}
 use Rattle.ipdl_top.specs.Told.{IsStop}
 use Rattle.ipdl_top.specs.declared.refusal.Stop.{Stop}
-
--- a test that is to hold does
-held : (b : Bool) (r : Refusal) (later : Option Refusal) → (if b then later else Some r) ≡ None → (b ≡ true) × (later ≡ None)
-held true r later e = (refl, e)
-held false r later e = cc
-
-holding : (b : Bool) (r : Refusal) (later : Option Refusal) → b ≡ true → (if b then later else Some r) ≡ later
-holding true r later e = refl
-holding false r later e = cc
 
 pub none_mapped : {X : Type 0} (f : X → Refusal) (found : Option X) → found ≡ None → option_map f found ≡ None
 none_mapped f None e = refl
@@ -79,27 +68,25 @@ between-none symbols entries theorems assumptions neighbours written name left r
 between-none symbols entries theorems assumptions neighbours written name left right lefts rights (Some from) (Some to) l r is is' e =
     claim_refusal-none symbols assumptions neighbours written _ e
 
-between-proved : (symbols : List Symbol) (entries : List Entry) (theorems : List Proved) (assumptions : List (List ℕ)) (neighbours written : ℕ) (name left right : List ℕ) (lefts rights : List Step) (from to : Option Network) → HasChain neighbours (claim_between symbols entries theorems name left right lefts rights from to) → written + length (claim_text symbols assumptions (claim_between symbols entries theorems name left right lefts rights from to)) ≤ limit_number Output → ((are_built_steps lefts && are_built_steps rights) ≡ true) × (claim_refusal symbols assumptions neighbours written (claim_between symbols entries theorems name left right lefts rights from to) ≡ None)
+between-proved : (symbols : List Symbol) (entries : List Entry) (theorems : List Proved) (assumptions : List (List ℕ)) (neighbours written : ℕ) (name left right : List ℕ) (lefts rights : List Step) (from to : Option Network) → HasChain neighbours (claim_between symbols entries theorems name left right lefts rights from to) → written + length (claim_text symbols assumptions (claim_between symbols entries theorems name left right lefts rights from to)) ≤ limit_number Output → claim_refusal symbols assumptions neighbours written (claim_between symbols entries theorems name left right lefts rights from to) ≡ None
 between-proved symbols entries theorems assumptions neighbours written name left right lefts rights None to has fits = absurd has
 between-proved symbols entries theorems assumptions neighbours written name left right lefts rights (Some from) None has fits = absurd has
 between-proved symbols entries theorems assumptions neighbours written name left right lefts rights (Some from) (Some to) has fits =
-    (built_scripts _ neighbours _ _ has, claim_refusal-proved symbols assumptions neighbours written _ has fits)
+    claim_refusal-proved symbols assumptions neighbours written _ has fits
 
-theorem_refusal-none : (symbols : List Symbol) (entries : List Entry) (theorems : List Proved) (offset neighbours written : ℕ) (item : Entry) → HasSides entries item → written ≤ limit_number Output → theorem_refusal symbols entries theorems offset neighbours written item ≡ None → IsProvedItem symbols entries theorems neighbours item × (written + length (item_text symbols entries theorems item) ≤ limit_number Output)
-theorem_refusal-none symbols entries theorems offset neighbours written (symbol_entry n s) has fits e = (tt, omega (arith, fits))
-theorem_refusal-none symbols entries theorems offset neighbours written (protocol_entry name interface body) has fits e = (tt, omega (arith, fits))
-theorem_refusal-none symbols entries theorems offset neighbours written (assumption_entry name left right) has fits e = (tt, omega (arith, fits))
-theorem_refusal-none symbols entries theorems offset neighbours written (theorem_entry name left right lefts rights) has fits e =
-    let built = held (are_built_steps lefts && are_built_steps rights) _ _ e in
-    between-none symbols entries theorems (assumptions_in entries) neighbours written name left right lefts rights (network_named entries left) (network_named entries right) has.0.0 has.1.0 has.0.1 has.1.1 built.1
+theorem_refusal-none : (symbols : List Symbol) (entries : List Entry) (theorems : List Proved) (neighbours written : ℕ) (item : Entry) → HasSides entries item → written ≤ limit_number Output → theorem_refusal symbols entries theorems neighbours written item ≡ None → IsProvedItem symbols entries theorems neighbours item × (written + length (item_text symbols entries theorems item) ≤ limit_number Output)
+theorem_refusal-none symbols entries theorems neighbours written (symbol_entry n s) has fits e = (tt, omega (arith, fits))
+theorem_refusal-none symbols entries theorems neighbours written (protocol_entry name interface body) has fits e = (tt, omega (arith, fits))
+theorem_refusal-none symbols entries theorems neighbours written (assumption_entry name left right) has fits e = (tt, omega (arith, fits))
+theorem_refusal-none symbols entries theorems neighbours written (theorem_entry name left right lefts rights) has fits e =
+    between-none symbols entries theorems (assumptions_in entries) neighbours written name left right lefts rights (network_named entries left) (network_named entries right) has.0.0 has.1.0 has.0.1 has.1.1 e
 
-theorem_refusal-proved : (symbols : List Symbol) (entries : List Entry) (theorems : List Proved) (offset neighbours written : ℕ) (item : Entry) → IsProvedItem symbols entries theorems neighbours item → written + length (item_text symbols entries theorems item) ≤ limit_number Output → theorem_refusal symbols entries theorems offset neighbours written item ≡ None
-theorem_refusal-proved symbols entries theorems offset neighbours written (symbol_entry n s) proved fits = refl
-theorem_refusal-proved symbols entries theorems offset neighbours written (protocol_entry name interface body) proved fits = refl
-theorem_refusal-proved symbols entries theorems offset neighbours written (assumption_entry name left right) proved fits = refl
-theorem_refusal-proved symbols entries theorems offset neighbours written (theorem_entry name left right lefts rights) proved fits =
-    let both = between-proved symbols entries theorems (assumptions_in entries) neighbours written name left right lefts rights (network_named entries left) (network_named entries right) proved fits in
-    holding (are_built_steps lefts && are_built_steps rights) _ _ both.0 ∙ both.1
+theorem_refusal-proved : (symbols : List Symbol) (entries : List Entry) (theorems : List Proved) (neighbours written : ℕ) (item : Entry) → IsProvedItem symbols entries theorems neighbours item → written + length (item_text symbols entries theorems item) ≤ limit_number Output → theorem_refusal symbols entries theorems neighbours written item ≡ None
+theorem_refusal-proved symbols entries theorems neighbours written (symbol_entry n s) proved fits = refl
+theorem_refusal-proved symbols entries theorems neighbours written (protocol_entry name interface body) proved fits = refl
+theorem_refusal-proved symbols entries theorems neighbours written (assumption_entry name left right) proved fits = refl
+theorem_refusal-proved symbols entries theorems neighbours written (theorem_entry name left right lefts rights) proved fits =
+    between-proved symbols entries theorems (assumptions_in entries) neighbours written name left right lefts rights (network_named entries left) (network_named entries right) proved fits
 
 -- ---- the chains so far
 
@@ -148,9 +135,9 @@ module _ (symbols : List Symbol) (entries : List Entry) where
       (subst (λ (theorems : List Proved). AreProved symbols entries theorems (items_neighbours symbols entries [] done + item_neighbours symbols entries (theorems_after symbols entries [] done) item) items) (sym (theorems_after-next [] done item)) h)
 
 -- how the item after some is judged
-judged_after : (d : Document) (t : Located) (index : ℕ) (done items : List Entry) (item : Entry) → index ≡ length done → d.entries ≡ done ++ items → judged_by_script d t index item ≡ theorem_refusal d.symbols d.entries (theorems_after d.symbols d.entries [] done) (item_offset t index) (items_neighbours d.symbols d.entries [] done) (length (items_text d.symbols d.entries [] done)) item
-judged_after d t index done items item is e =
-    ap (λ front. theorem_refusal d.symbols d.entries (theorems_after d.symbols d.entries [] front) (item_offset t index) (items_neighbours d.symbols d.entries [] front) (length (items_text d.symbols d.entries [] front)) item)
+judged_after : (d : Document) (index : ℕ) (done items : List Entry) (item : Entry) → index ≡ length done → d.entries ≡ done ++ items → judged_by_script d index item ≡ theorem_refusal d.symbols d.entries (theorems_after d.symbols d.entries [] done) (items_neighbours d.symbols d.entries [] done) (length (items_text d.symbols d.entries [] done)) item
+judged_after d index done items item is e =
+    ap (λ front. theorem_refusal d.symbols d.entries (theorems_after d.symbols d.entries [] front) (items_neighbours d.symbols d.entries [] front) (length (items_text d.symbols d.entries [] front)) item)
     (ap (take index) e ∙ ap (λ n. take n (done ++ items)) is ∙ take-append_seam done items)
 
 one_more_done : (done items : List Entry) (item : Entry) (entries : List Entry) → entries ≡ done ++ item ∷ items → entries ≡ (done ++ item ∷ []) ++ items
@@ -161,53 +148,53 @@ count_done done item index is = omega (arith, is, length-append done (item ∷ [
 
 -- ---- all theorems
 
-proved_and_short : (d : Document) (t : Located) (index : ℕ) (done items : List Entry) → index ≡ length done → d.entries ≡ done ++ items → HaveSides d.entries items → length (items_text d.symbols d.entries [] done) ≤ limit_number Output → first_refusal (judged_by_script d t) index items ≡ None → AreProvedAfter d.symbols d.entries done items × HasShortChains d
-proved_and_short d t index done [] is e has fits none =
+proved_and_short : (d : Document) (index : ℕ) (done items : List Entry) → index ≡ length done → d.entries ≡ done ++ items → HaveSides d.entries items → length (items_text d.symbols d.entries [] done) ≤ limit_number Output → first_refusal (judged_by_script d) index items ≡ None → AreProvedAfter d.symbols d.entries done items × HasShortChains d
+proved_and_short d index done [] is e has fits none =
     (tt, subst (λ front. length (items_text d.symbols d.entries [] front) ≤ limit_number Output) (sym (e ∙ append-nil done)) fits)
-proved_and_short d t index done (item ∷ items) is e has fits none =
-    let both = neither (judged_by_script d t index item) (first_refusal (judged_by_script d t) (suc index) items) none in
-    let first = theorem_refusal-none d.symbols d.entries (theorems_after d.symbols d.entries [] done) (item_offset t index) (items_neighbours d.symbols d.entries [] done) (length (items_text d.symbols d.entries [] done)) item has.0 fits
-    (sym (judged_after d t index done (item ∷ items) item is e) ∙ both.0) in
-    let rest = proved_and_short d t (suc index) (done ++ item ∷ []) items (count_done done item index is) (one_more_done done items item d.entries e) has.1
+proved_and_short d index done (item ∷ items) is e has fits none =
+    let both = neither (judged_by_script d index item) (first_refusal (judged_by_script d) (suc index) items) none in
+    let first = theorem_refusal-none d.symbols d.entries (theorems_after d.symbols d.entries [] done) (items_neighbours d.symbols d.entries [] done) (length (items_text d.symbols d.entries [] done)) item has.0 fits
+    (sym (judged_after d index done (item ∷ items) item is e) ∙ both.0) in
+    let rest = proved_and_short d (suc index) (done ++ item ∷ []) items (count_done done item index is) (one_more_done done items item d.entries e) has.1
     (omega (arith, first.1, longer d.symbols d.entries done item)) both.1 in
     ((first.0, proved_with d.symbols d.entries done item items rest.0), rest.1)
 
-pub IsProvedDocument-none : (d : Document) (t : Located) → HaveSides d.entries d.entries → script_refusal d t ≡ None → IsProvedDocument d × HasShortChains d
-IsProvedDocument-none d t has none = proved_and_short d t 0 [] d.entries refl refl has (omega arith) none
+pub IsProvedDocument-none : (d : Document) → HaveSides d.entries d.entries → script_refusal d ≡ None → IsProvedDocument d × HasShortChains d
+IsProvedDocument-none d has none = proved_and_short d 0 [] d.entries refl refl has (omega arith) none
 
-none_refused : (d : Document) (t : Located) (index : ℕ) (done items : List Entry) → index ≡ length done → d.entries ≡ done ++ items → HasShortChains d → AreProvedAfter d.symbols d.entries done items → first_refusal (judged_by_script d t) index items ≡ None
-none_refused d t index done [] is e short proved = refl
-none_refused d t index done (item ∷ items) is e short proved =
+none_refused : (d : Document) (index : ℕ) (done items : List Entry) → index ≡ length done → d.entries ≡ done ++ items → HasShortChains d → AreProvedAfter d.symbols d.entries done items → first_refusal (judged_by_script d) index items ≡ None
+none_refused d index done [] is e short proved = refl
+none_refused d index done (item ∷ items) is e short proved =
     let e' = one_more_done done items item d.entries e in
     let all : length (chains_text d) ≡ length (items_text d.symbols d.entries [] (done ++ item ∷ [])) + length (items_text d.symbols d.entries (theorems_after d.symbols d.entries [] (done ++ item ∷ [])) items) =
     ap (λ front. length (items_text d.symbols d.entries [] front)) e'
     ∙ ap length (items_text-append d.symbols d.entries [] (done ++ item ∷ []) items)
     ∙ length-append (items_text d.symbols d.entries [] (done ++ item ∷ [])) (items_text d.symbols d.entries (theorems_after d.symbols d.entries [] (done ++ item ∷ [])) items) in
-    no_first (judged_by_script d t index item) (first_refusal (judged_by_script d t) (suc index) items)
-    (judged_after d t index done (item ∷ items) item is e
-    ∙ theorem_refusal-proved d.symbols d.entries (theorems_after d.symbols d.entries [] done) (item_offset t index) (items_neighbours d.symbols d.entries [] done) (length (items_text d.symbols d.entries [] done)) item proved.0
+    no_first (judged_by_script d index item) (first_refusal (judged_by_script d) (suc index) items)
+    (judged_after d index done (item ∷ items) item is e
+    ∙ theorem_refusal-proved d.symbols d.entries (theorems_after d.symbols d.entries [] done) (items_neighbours d.symbols d.entries [] done) (length (items_text d.symbols d.entries [] done)) item proved.0
     (omega (arith, short, all, longer d.symbols d.entries done item)))
-    ∙ none_refused d t (suc index) (done ++ item ∷ []) items (count_done done item index is) e' short
+    ∙ none_refused d (suc index) (done ++ item ∷ []) items (count_done done item index is) e' short
     (proved_after d.symbols d.entries done item items proved.1)
 
-pub script_refusal-proved : (d : Document) (t : Located) → IsProvedDocument d → HasShortChains d → script_refusal d t ≡ None
-script_refusal-proved d t proved short = none_refused d t 0 [] d.entries refl refl short proved
+pub script_refusal-proved : (d : Document) → IsProvedDocument d → HasShortChains d → script_refusal d ≡ None
+script_refusal-proved d proved short = none_refused d 0 [] d.entries refl refl short proved
 
 -- ---- one more turn of the loop over the items
 
 -- the items so far are not refused. These are the theorems among them, and their chains have so many neighbours and this text
-pub record IsDone (document : Held) (t : Located) (index : ℕ) (theorems : List Proved) (neighbours : ℕ) (text : List ℕ) : Type 0 where
-  pub tests : script_refusal (document_of document) t ≡ first_refusal (judged_by_script (document_of document) t) index (map (entry_of document.sig) (drop index document.items))
+pub record IsDone (document : Held) (index : ℕ) (theorems : List Proved) (neighbours : ℕ) (text : List ℕ) : Type 0 where
+  pub tests : script_refusal (document_of document) ≡ first_refusal (judged_by_script (document_of document)) index (map (entry_of document.sig) (drop index document.items))
   pub proves : theorems ≡ theorems_before document.sig (document_of document).entries index
   pub counted : neighbours ≡ items_neighbours document.sig (document_of document).entries [] (take index (document_of document).entries)
   pub written : text ≡ items_text document.sig (document_of document).entries [] (take index (document_of document).entries)
 
 -- how the next item is judged
-judged_next : (document : Held) (t : Located) (index : ℕ) (theorems : List Proved) (neighbours : ℕ) (text : List ℕ) (item : Entry) → IsDone document t index theorems neighbours text → judged_by_script (document_of document) t index item ≡ theorem_refusal document.sig (document_of document).entries theorems (item_offset t index) neighbours (length text) item
-judged_next document t index theorems neighbours text item done =
+judged_next : (document : Held) (index : ℕ) (theorems : List Proved) (neighbours : ℕ) (text : List ℕ) (item : Entry) → IsDone document index theorems neighbours text → judged_by_script (document_of document) index item ≡ theorem_refusal document.sig (document_of document).entries theorems neighbours (length text) item
+judged_next document index theorems neighbours text item done =
     let d = document_of document in
-    ap (λ (before : List Proved). theorem_refusal d.symbols d.entries before (item_offset t index) (items_neighbours d.symbols d.entries [] (take index d.entries)) (length (items_text d.symbols d.entries [] (take index d.entries))) item) (sym done.proves)
-    ∙ ap₂ (λ n (s : List ℕ). theorem_refusal d.symbols d.entries theorems (item_offset t index) n (length s) item) (sym done.counted) (sym done.written)
+    ap (λ (before : List Proved). theorem_refusal d.symbols d.entries before (items_neighbours d.symbols d.entries [] (take index d.entries)) (length (items_text d.symbols d.entries [] (take index d.entries))) item) (sym done.proves)
+    ∙ ap₂ (λ n (s : List ℕ). theorem_refusal d.symbols d.entries theorems n (length s) item) (sym done.counted) (sym done.written)
 
 -- the first entries with one more
 entries_taken : (symbols : List Symbol) (items : List Item) (index : ℕ) (item : Item) → index < length items → item ≡ get_or items index item → take (suc index) (map (entry_of symbols) items) ≡ take index (map (entry_of symbols) items) ++ entry_of symbols item ∷ []
@@ -218,8 +205,8 @@ entries_taken symbols items index item less is =
     ∙ ap (λ front. front ++ entry_of symbols item ∷ []) (sym (take-map (entry_of symbols) index items))
 
 -- what the check of an item says where nothing refuses it
-pub record PassesItem (held : Held) (t : Located) (index : ℕ) (item : Item) (theorems theorems' : List Proved) (neighbours more : ℕ) (text text' : List ℕ) : Type 0 where
-  pub refusal : theorem_refusal held.sig (document_of held).entries theorems (item_offset t index) neighbours (length text) (entry_of held.sig item) ≡ None
+pub record PassesItem (held : Held) (index : ℕ) (item : Item) (theorems theorems' : List Proved) (neighbours more : ℕ) (text text' : List ℕ) : Type 0 where
+  pub refusal : theorem_refusal held.sig (document_of held).entries theorems neighbours (length text) (entry_of held.sig item) ≡ None
   pub proves : theorems' ≡ theorems_with held.sig (document_of held).entries theorems (entry_of held.sig item)
   pub count : more ≡ item_neighbours held.sig (document_of held).entries theorems (entry_of held.sig item)
   pub writes : text' ≡ text ++ item_text held.sig (document_of held).entries theorems (entry_of held.sig item)
@@ -227,16 +214,16 @@ pub record PassesItem (held : Held) (t : Located) (index : ℕ) (item : Item) (t
 dropped : (items : List Item) (index : ℕ) (item : Item) → index < length items → item ≡ get_or items index item → drop index items ≡ item ∷ drop (suc index) items
 dropped items index item less is = drop-cons items index item less ∙ ap (λ x. x ∷ drop (suc index) items) (sym is)
 
-IsDone-suc : (document : Held) (t : Located) (index : ℕ) (item : Item) (theorems theorems' : List Proved) (neighbours more : ℕ) (text text' : List ℕ) → index < length document.items → item ≡ get_or document.items index item → IsDone document t index theorems neighbours text → PassesItem document t index item theorems theorems' neighbours more text text' → IsDone document t (suc index) theorems' (neighbours + more) text'
-IsDone-suc document t index item theorems theorems' neighbours more text text' less there done passes =
+IsDone-suc : (document : Held) (index : ℕ) (item : Item) (theorems theorems' : List Proved) (neighbours more : ℕ) (text text' : List ℕ) → index < length document.items → item ≡ get_or document.items index item → IsDone document index theorems neighbours text → PassesItem document index item theorems theorems' neighbours more text text' → IsDone document (suc index) theorems' (neighbours + more) text'
+IsDone-suc document index item theorems theorems' neighbours more text text' less there done passes =
     let d = document_of document in
     let e = entry_of document.sig item in
     let taken = entries_taken document.sig document.items index item less there in
     record {
       tests = done.tests
-          ∙ ap (λ xs. first_refusal (judged_by_script d t) index (map (entry_of document.sig) xs)) (dropped document.items index item less there)
-          ∙ no_first (judged_by_script d t index e) (first_refusal (judged_by_script d t) (suc index) (map (entry_of document.sig) (drop (suc index) document.items)))
-          (judged_next document t index theorems neighbours text e done ∙ passes.refusal);
+          ∙ ap (λ xs. first_refusal (judged_by_script d) index (map (entry_of document.sig) xs)) (dropped document.items index item less there)
+          ∙ no_first (judged_by_script d index e) (first_refusal (judged_by_script d) (suc index) (map (entry_of document.sig) (drop (suc index) document.items)))
+          (judged_next document index theorems neighbours text e done ∙ passes.refusal);
       proves = passes.proves
           ∙ ap (λ (before : List Proved). theorems_with d.symbols d.entries before e) done.proves
           ∙ sym (theorems_after-next d.symbols d.entries [] (take index d.entries) e)
@@ -251,34 +238,34 @@ IsDone-suc document t index item theorems theorems' neighbours more text text' l
     }
 
 -- the book, whose document it is, has so many neighbours
-pub IsDone-next : (held document : Held) (t : Located) (index : ℕ) (item : Item) (theorems theorems' : List Proved) (so_far neighbours more : ℕ) (text text' : List ℕ) → held ≡ document → so_far ≡ neighbours → index < length document.items → item ≡ get_or document.items index item → IsDone document t index theorems neighbours text → PassesItem held t index item theorems theorems' so_far more text text' → IsDone document t (index + 1) theorems' (neighbours + more) text'
-IsDone-next held document t index item theorems theorems' so_far neighbours more text text' same count less there done passes =
+pub IsDone-next : (held document : Held) (index : ℕ) (item : Item) (theorems theorems' : List Proved) (so_far neighbours more : ℕ) (text text' : List ℕ) → held ≡ document → so_far ≡ neighbours → index < length document.items → item ≡ get_or document.items index item → IsDone document index theorems neighbours text → PassesItem held index item theorems theorems' so_far more text text' → IsDone document (index + 1) theorems' (neighbours + more) text'
+IsDone-next held document index item theorems theorems' so_far neighbours more text text' same count less there done passes =
     let next : suc index ≡ index + 1 = omega arith in
-    subst (λ n. IsDone document t n theorems' (neighbours + more) text') next
-    (IsDone-suc document t index item theorems theorems' neighbours more text text' less there done
-    (subst (λ n. PassesItem document t index item theorems theorems' n more text text') count
-    (subst (λ (h : Held). PassesItem h t index item theorems theorems' so_far more text text') same passes)))
+    subst (λ n. IsDone document n theorems' (neighbours + more) text') next
+    (IsDone-suc document index item theorems theorems' neighbours more text text' less there done
+    (subst (λ n. PassesItem document index item theorems theorems' n more text text') count
+    (subst (λ (h : Held). PassesItem h index item theorems theorems' so_far more text text') same passes)))
 
 -- a stop at the item is one at the document
-pub IsStop-item : (held document : Held) (t : Located) (index : ℕ) (item : Item) (theorems : List Proved) (so_far neighbours : ℕ) (text : List ℕ) (stop : Stop) → held ≡ document → so_far ≡ neighbours → index < length document.items → item ≡ get_or document.items index item → IsDone document t index theorems neighbours text → IsStop stop (theorem_refusal held.sig (document_of held).entries theorems (item_offset t index) so_far (length text) (entry_of held.sig item)) → IsStop stop (script_refusal (document_of document) t)
-IsStop-item held document t index item theorems so_far neighbours text stop same count less there done is =
+pub IsStop-item : (held document : Held) (index : ℕ) (item : Item) (theorems : List Proved) (so_far neighbours : ℕ) (text : List ℕ) (stop : Stop) → held ≡ document → so_far ≡ neighbours → index < length document.items → item ≡ get_or document.items index item → IsDone document index theorems neighbours text → IsStop stop (theorem_refusal held.sig (document_of held).entries theorems so_far (length text) (entry_of held.sig item)) → IsStop stop (script_refusal (document_of document))
+IsStop-item held document index item theorems so_far neighbours text stop same count less there done is =
     let d = document_of document in
     let e = entry_of document.sig item in
     IsStop-same stop _ _
-    (done.tests ∙ ap (λ xs. first_refusal (judged_by_script d t) index (map (entry_of document.sig) xs)) (dropped document.items index item less there))
-    (IsStop-first stop (judged_by_script d t index e) (first_refusal (judged_by_script d t) (suc index) (map (entry_of document.sig) (drop (suc index) document.items)))
-    (IsStop-same stop _ _ (judged_next document t index theorems neighbours text e done)
-    (subst (λ n. IsStop stop (theorem_refusal d.symbols d.entries theorems (item_offset t index) n (length text) e)) count
-    (subst (λ (h : Held). IsStop stop (theorem_refusal h.sig (document_of h).entries theorems (item_offset t index) so_far (length text) (entry_of h.sig item))) same is))))
+    (done.tests ∙ ap (λ xs. first_refusal (judged_by_script d) index (map (entry_of document.sig) xs)) (dropped document.items index item less there))
+    (IsStop-first stop (judged_by_script d index e) (first_refusal (judged_by_script d) (suc index) (map (entry_of document.sig) (drop (suc index) document.items)))
+    (IsStop-same stop _ _ (judged_next document index theorems neighbours text e done)
+    (subst (λ n. IsStop stop (theorem_refusal d.symbols d.entries theorems n (length text) e)) count
+    (subst (λ (h : Held). IsStop stop (theorem_refusal h.sig (document_of h).entries theorems so_far (length text) (entry_of h.sig item))) same is))))
 
 -- all items are done
-pub script_refusal-done : (document : Held) (t : Located) (index : ℕ) (theorems : List Proved) (neighbours : ℕ) (text : List ℕ) → IsDone document t index theorems neighbours text → drop index document.items ≡ [] → script_refusal (document_of document) t ≡ None
-script_refusal-done document t index theorems neighbours text done ended =
-    done.tests ∙ ap (λ xs. first_refusal (judged_by_script (document_of document) t) index (map (entry_of document.sig) xs)) ended
+pub script_refusal-done : (document : Held) (index : ℕ) (theorems : List Proved) (neighbours : ℕ) (text : List ℕ) → IsDone document index theorems neighbours text → drop index document.items ≡ [] → script_refusal (document_of document) ≡ None
+script_refusal-done document index theorems neighbours text done ended =
+    done.tests ∙ ap (λ xs. first_refusal (judged_by_script (document_of document)) index (map (entry_of document.sig) xs)) ended
 
-pub proved_text-done : (document : Held) (t : Located) (index : ℕ) (theorems : List Proved) (neighbours count : ℕ) (text text' : List ℕ) → IsDone document t index theorems neighbours text → length document.items ≤ index → count ≡ theorem_count (document_of document).entries → text' ≡ text ++ accepted_line count neighbours → text' ≡ proved_text (document_of document)
+pub proved_text-done : (document : Held) (index : ℕ) (theorems : List Proved) (neighbours count : ℕ) (text text' : List ℕ) → IsDone document index theorems neighbours text → length document.items ≤ index → count ≡ theorem_count (document_of document).entries → text' ≡ text ++ accepted_line count neighbours → text' ≡ proved_text (document_of document)
 unfolding proved_text
-proved_text-done document t index theorems neighbours count text text' done all counted e =
+proved_text-done document index theorems neighbours count text text' done all counted e =
     let d = document_of document in
     let whole : take index d.entries ≡ d.entries = take_all index d.entries (omega (arith, all, length-map document.items (entry_of document.sig))) in
     e

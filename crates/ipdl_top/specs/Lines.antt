@@ -11,7 +11,7 @@ use Rattle.ipdl_forms.specs.declared.fault.FormCause.{FormCause}
 use Rattle.ipdl_forms.specs.declared.fault.FormCause.TheVariants.{NotAForm, UnknownName, Repeated, WrongWidth, TableLength}
 use Rattle.ipdl_printing.specs.Printing.{binder_name, symbol_name}
 use Rattle.ipdl_printing.specs.Texts.{line, spaced, in_parentheses, place_text}
-use Rattle.ipdl_rules_r.specs.TruthTests.{TruthRefusal, abstract_symbol, too_large, too_wide, differ_at}
+use Rattle.ipdl_rules_r.specs.TruthTests.{TruthRefusal, abstract_symbol, too_large, too_wide, differ_at, other_forms}
 use Rattle.ipdl_script.specs.Scripts.{Side, left_side, right_side}
 use Rattle.ipdl_script.specs.Steps as S
 use Rattle.ipdl_sig.specs.declared.symbol.Symbol.{Symbol}
@@ -73,6 +73,7 @@ truth_cause_text symbols (abstract_symbol f) = spaced (codes "Abstract" ∷ symb
 truth_cause_text symbols (too_large bits) = spaced (codes "Large" ∷ decimal bits ∷ [])
 truth_cause_text symbols (too_wide bits) = spaced (codes "TooWide" ∷ decimal bits ∷ [])
 truth_cause_text symbols (differ_at valuation) = codes "NotSame" ++ after_blanks (map value_text valuation)
+truth_cause_text symbols (other_forms bit) = spaced (codes "NotSame" ∷ codes "bit" ∷ decimal bit ∷ [])
 
 -- why a step is refused. A limit has a line of its own
 abbrev pub step_cause_text : List Symbol → S.Refusal → List ℕ

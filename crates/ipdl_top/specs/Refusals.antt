@@ -44,10 +44,6 @@ too_deep item = refusal_of over (limit_line Depth greatest_printed_depth (at_ite
 
 -- ---- of a theorem
 
--- its scripts, which stand at an offset, have a step that is not built
-abbrev pub not_built : (offset : ℕ) → Refusal
-not_built offset = refusal_of bad (form_line offset (codes "NotBuilt"))
-
 -- the greatest count of what a step gives
 abbrev pub greatest_in_step : Limit → ℕ
 greatest_in_step Depth = greatest_printed_depth

@@ -87,10 +87,10 @@ pub record IsDocument (d : Document) (t : Located) (bytes : List ℕ) : Type 0 w
   pub within : IsWithinLimits d
 
 -- what is asked of a document whose items are well typed is refused
-abbrev pub IsRequestRefusal : Request → Document → Located → Refusal → Type 0
-IsRequestRefusal check d t r = IsCheckRefusal d t r
-IsRequestRefusal types d t r = IsTypesRefusal d t r
-IsRequestRefusal (run_item name tape order) d t r = IsRunRefusal name tape d r
+abbrev pub IsRequestRefusal : Request → Document → Refusal → Type 0
+IsRequestRefusal check d r = IsCheckRefusal d r
+IsRequestRefusal types d r = IsTypesRefusal d r
+IsRequestRefusal (run_item name tape order) d r = IsRunRefusal name tape d r
 
 -- what is asked of a document is answered by this text
 abbrev pub IsAnswer : Request → Document → List ℕ → Type 0
@@ -103,8 +103,8 @@ abbrev pub IsIll : Document → Refusal → Type 0
 IsIll d r = type_refusal d ≡ Some r
 
 -- a document is refused: an item of it, or what is asked of it
-abbrev pub IsRefusedDocument : Request → Document → Located → Refusal → Type 0
-IsRefusedDocument request d t r = IsIll d r ⊎ (IsTypedDocument d × IsRequestRefusal request d t r)
+abbrev pub IsRefusedDocument : Request → Document → Refusal → Type 0
+IsRefusedDocument request d r = IsIll d r ⊎ (IsTypedDocument d × IsRequestRefusal request d r)
 
 -- ---- the reply
 
@@ -118,7 +118,7 @@ abbrev pub IsReplyTo : Request → List ℕ → Reply → Type 0
 IsReplyTo request bytes reply =
     ((r : Refusal) × IsRefusedSource bytes r × (reply ≡ refused r))
     ⊎ ((length bytes ≤ source_limit) × ((t : Located) × (d : Document) × IsDocument d t bytes
-    × IsReplyBy (IsRefusedDocument request d t) (IsAnswer request d) reply))
+    × IsReplyBy (IsRefusedDocument request d) (IsAnswer request d) reply))
 
 -- the reply to words, and to all bytes of a source
 abbrev pub IsReply : List (List ℕ) → List ℕ → Reply → Type 0

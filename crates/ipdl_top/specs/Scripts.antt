@@ -1,47 +1,19 @@
--- Theorems by their scripts: which rules are built, what refuses a theorem, and which ones are proved.
+-- Theorems by their scripts: what refuses a theorem, and which ones are proved.
 use Rattle.std.specs.Prelude.{ℕ, suc, ◌+◌, ◌-◌, ◌≤◌, ◌&&◌, nat_lt, Bool, true, false, List, [], ◌∷◌, length, take, slice_get, codes, Option, Some, None, option_map, if◌then◌else◌}
-use Rattle.std.specs.List.{list_all}
 use Rattle.std.specs.Option.{option_or}
 use Rattle.ipdl_base.specs.Limits.{limit_number}
 use Rattle.ipdl_base.specs.declared.limit.Limit.TheVariants.{Output}
 use Rattle.ipdl_chain.specs.ChainTexts.{assumptions_in}
 use Rattle.ipdl_forms.specs.Documents.{Document, Entry, symbol_entry, protocol_entry, assumption_entry, theorem_entry}
-use Rattle.ipdl_forms.specs.Lists.{operand}
 use Rattle.ipdl_printing.specs.Texts.{spaced}
 use Rattle.ipdl_script.specs.Known.{Proved}
 use Rattle.ipdl_script.specs.Scripts.{IsChain, Side, left_side, right_side, Wrong, wrong_step, wrong_ends, first_wrong}
 use Rattle.ipdl_sig.specs.declared.symbol.Symbol.{Symbol}
-use Rattle.ipdl_term.specs.Rules.{Rule, rule_word, tidy, lin, shape}
+use Rattle.ipdl_term.specs.Rules.{rule_word}
 use Rattle.ipdl_term.specs.Steps.{Step, plain, rev, invoke}
-use Rattle.ipdl_tree.specs.Trees.{Located, offset_of}
 use Rattle.ipdl_top.specs.Chains.{Claim, claim_of, claim_chain, theorems_with, theorems_before, item_neighbours, items_neighbours, claim_text, items_text, chains_text}
-use Rattle.ipdl_top.specs.Refusals.{not_built, step_refused, ends_differ, long_chains, first_refusal}
+use Rattle.ipdl_top.specs.Refusals.{step_refused, ends_differ, long_chains, first_refusal}
 use Rattle.ipdl_top.specs.Statuses.{Refusal}
-
--- ---- what is built
-
--- all rules but those of normal and linear forms
-abbrev pub is_built_rule : Rule → Bool
-is_built_rule tidy = false
-is_built_rule (lin e) = false
-is_built_rule shape = false
-is_built_rule _ = true
-
--- a step by a rule that is built, forward or back, or a use
-abbrev pub is_built_step : Step → Bool
-is_built_step (plain place rule) = is_built_rule rule
-is_built_step (rev place rule term) = is_built_rule rule
-is_built_step (invoke place name direction pairs) = true
-
-abbrev pub are_built_steps : List Step → Bool
-are_built_steps steps = list_all is_built_step steps
-
--- what is no theorem has no scripts
-abbrev pub has_built_scripts : Entry → Bool
-has_built_scripts (theorem_entry name left right lefts rights) = are_built_steps lefts && are_built_steps rights
-has_built_scripts (symbol_entry n s) = true
-has_built_scripts (protocol_entry name interface body) = true
-has_built_scripts (assumption_entry name left right) = true
 
 -- ---- what is wrong with a script
 
@@ -85,27 +57,21 @@ claim_refusal symbols assumptions neighbours written (Some claim) =
     (first_wrong claim.setting neighbours claim.theorem))
     (length_refusal claim.name (written + length (claim_text symbols assumptions (Some claim))))
 
--- The first test of a theorem that fails, which may use these theorems. Its item begins at an offset.
-abbrev pub theorem_refusal : List Symbol → List Entry → List Proved → (offset neighbours written : ℕ) → Entry → Option Refusal
-theorem_refusal symbols entries theorems offset neighbours written item =
-    if has_built_scripts item
-    then claim_refusal symbols (assumptions_in entries) neighbours written (claim_of symbols entries theorems item)
-    else Some (not_built offset)
-
--- where the item of an index begins in the tree of its document, which has the version before all items
-abbrev pub item_offset : Located → ℕ → ℕ
-item_offset t index = offset_of (operand (suc index) t)
+-- the first test of a theorem that fails, which may use these theorems
+abbrev pub theorem_refusal : List Symbol → List Entry → List Proved → (neighbours written : ℕ) → Entry → Option Refusal
+theorem_refusal symbols entries theorems neighbours written item =
+    claim_refusal symbols (assumptions_in entries) neighbours written (claim_of symbols entries theorems item)
 
 -- each theorem is judged by its scripts, and by the chains before it
-abbrev pub judged_by_script : Document → Located → ℕ → Entry → Option Refusal
-judged_by_script d t index item =
-    theorem_refusal d.symbols d.entries (theorems_before d.symbols d.entries index) (item_offset t index)
+abbrev pub judged_by_script : Document → ℕ → Entry → Option Refusal
+judged_by_script d index item =
+    theorem_refusal d.symbols d.entries (theorems_before d.symbols d.entries index)
     (items_neighbours d.symbols d.entries [] (take index d.entries))
     (length (items_text d.symbols d.entries [] (take index d.entries))) item
 
 -- that of the first theorem that is refused
-abbrev pub script_refusal : Document → Located → Option Refusal
-script_refusal d t = first_refusal (judged_by_script d t) 0 d.entries
+abbrev pub script_refusal : Document → Option Refusal
+script_refusal d = first_refusal (judged_by_script d) 0 d.entries
 
 -- ---- proved
 

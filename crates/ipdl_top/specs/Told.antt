@@ -10,7 +10,7 @@ use Rattle.ipdl_forms.specs.declared.fault.DocFault.{DocFault}
 use Rattle.ipdl_forms.specs.declared.fault.DocFault.TheVariants as F
 use Rattle.ipdl_top.specs.Lines.{at_byte, at_item, at_theorem, at_step, limit_line, wrong_step_line}
 use Rattle.ipdl_script.specs.Views.{side_of}
-use Rattle.ipdl_top.specs.Refusals.{unspelled, misformed, ill, not_built, ends_differ}
+use Rattle.ipdl_top.specs.Refusals.{unspelled, misformed, ill, ends_differ}
 use Rattle.ipdl_top.specs.Requests.{Request, check, types, run_item, tape_of}
 use Rattle.ipdl_top.specs.Statuses.{wrong, bad, over, Refusal, refusal_of, Reply, reply_of}
 use Rattle.ipdl_top.specs.declared.answering.Answer.{Answer}
@@ -39,7 +39,6 @@ where_words (Step theorem side number) = at_step theorem (side_of side) number
 abbrev pub told : Held → Refusal
 told (R.Spell pos cause) = unspelled pos.0 cause
 told (R.Form pos cause) = misformed pos.0 cause
-told (R.NotBuilt pos) = not_built pos.0
 told (R.Limit limit number at) = refusal_of over (limit_line limit number (where_words at))
 told (R.Ill item found) = ill item (failure_of found)
 told (R.WrongStep theorem side number rule cause) =

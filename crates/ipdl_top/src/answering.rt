@@ -2,7 +2,6 @@
 
 ghost use Rattle.std.specs.Prelude.{◌≡◌, ◌≤◌, IfOk, IfErr, length};
 ghost use Rattle.ipdl_tree.specs.Trees.{Located};
-ghost use Rattle.ipdl_tree.specs.Views.{located};
 ghost use Rattle.ipdl_forms.specs.Documents.{document_of};
 ghost use Rattle.ipdl_forms.specs.Items.{SpellsDocument};
 ghost use Rattle.ipdl_forms.specs.Limits.{IsWithinLimits};
@@ -27,17 +26,17 @@ use ipdl_base::{Name, NoMemory};
 use ipdl_commands::{CommandFault, run_text};
 use ipdl_forms::Document;
 use ipdl_read::read_document;
-use ipdl_tree::{Tree, read_tree};
+use ipdl_tree::read_tree;
 use std::alloc::Global;
 
 // The answer to `check`, of a document whose items are well typed.
-fn answer_to_check(alloc: Global, tree: &Tree, document: &Document) -> Result<Vec<u8>, Stop>
-    requires spelled { SpellsDocument (document_of document.now) (located tree.now) }
+fn answer_to_check(alloc: Global, document: &Document) -> Result<Vec<u8>, Stop>
+    requires spelled { (t : Located) × SpellsDocument (document_of document.now) t }
     requires within { IsWithinLimits (document_of document.now) }
     requires typed { IsTypedDocument (document_of document.now) }
-    ensures { Settles result (IsCheckRefusal (document_of document.now) (located tree.now)) (IsCheckAnswer (document_of document.now)) }
+    ensures { Settles result (IsCheckRefusal (document_of document.now)) (IsCheckAnswer (document_of document.now)) }
 {
-    proved_text(alloc, tree, document)
+    proved_text(alloc, document)
 }
 
 // The answer to `types`, of a document whose items are well typed.
@@ -88,16 +87,15 @@ fn answer_to_run(
 fn answer_to_typed(
     alloc: Global,
     request: &Request<'_>,
-    tree: &Tree,
     document: &Document,
 ) -> Result<Vec<u8>, Stop>
-    requires spelled { SpellsDocument (document_of document.now) (located tree.now) }
+    requires spelled { (t : Located) × SpellsDocument (document_of document.now) t }
     requires within { IsWithinLimits (document_of document.now) }
     requires typed { IsTypedDocument (document_of document.now) }
-    ensures { Settles result (IsRequestRefusal (request_of request.now) (document_of document.now) (located tree.now)) (IsAnswer (request_of request.now) (document_of document.now)) }
+    ensures { Settles result (IsRequestRefusal (request_of request.now) (document_of document.now)) (IsAnswer (request_of request.now) (document_of document.now)) }
 {
     match request {
-        Request::Check => answer_to_check(alloc, tree, document),
+        Request::Check => answer_to_check(alloc, document),
         Request::Types => answer_to_types(alloc, document),
         Request::Run { name, tape, .. } => answer_to_run(alloc, document, name, tape),
     }
@@ -107,15 +105,14 @@ fn answer_to_typed(
 fn answer_to_document(
     alloc: Global,
     request: &Request<'_>,
-    tree: &Tree,
     document: &Document,
 ) -> Result<Vec<u8>, Stop>
-    requires spelled { SpellsDocument (document_of document.now) (located tree.now) }
+    requires spelled { (t : Located) × SpellsDocument (document_of document.now) t }
     requires within { IsWithinLimits (document_of document.now) }
-    ensures { Settles result (IsRefusedDocument (request_of request.now) (document_of document.now) (located tree.now)) (IsAnswer (request_of request.now) (document_of document.now)) }
+    ensures { Settles result (IsRefusedDocument (request_of request.now) (document_of document.now)) (IsAnswer (request_of request.now) (document_of document.now)) }
 {
     match test_items(alloc, document) {
-        Ok(()) => answer_to_typed(alloc, request, tree, document),
+        Ok(()) => answer_to_typed(alloc, request, document),
         Err(stop) => Err(stop),
     }
 }
@@ -130,7 +127,7 @@ fn answer_to(alloc: Global, request: &Request<'_>, bytes: &[u8]) -> Result<Vec<u
         Err(fault) => return Err(tree_stop(fault)),
     };
     match read_document(alloc, &tree) {
-        Ok(document) => answer_to_document(alloc, request, &tree, &document),
+        Ok(document) => answer_to_document(alloc, request, &document),
         Err(fault) => Err(document_stop(fault)),
     }
 }

@@ -131,6 +131,7 @@ pub(crate) fn step_cause_text(alloc: Global, sig: &Sig, cause: &Cause) -> Result
         Cause::Large { bits } => format!(in alloc; "Large {bits}")?.into_bytes(),
         Cause::TooWide { bits } => format!(in alloc; "TooWide {bits}")?.into_bytes(),
         Cause::NotSame { valuation } => difference_text(alloc, valuation.as_slice())?,
+        Cause::NotForm { bit } => format!(in alloc; "NotSame bit {bit}")?.into_bytes(),
         Cause::NoChannel { name } => channel_text(alloc, "NoChannel", name)?.into_bytes(),
         Cause::NotInjective { first, second } => clash_text(alloc, first, second)?.into_bytes(),
         Cause::Capture { name } => channel_text(alloc, "Capture", name)?.into_bytes(),

@@ -43,8 +43,8 @@ pub fn the_first_item_is_refused()
 /// The theorem that a refusal names is the first in order whose script does not prove it, or with
 /// which the chains are too long.
 pub fn the_first_theorem_is_refused()
-    ensures refused { (d : Document) (t : Located) (r : Refusal) → (script_refusal d t ≡ Some r) ↔ IsFirstRefused (judged_by_script d t) d.entries r }
-    ensures none { (d : Document) (t : Located) → (script_refusal d t ≡ None) ↔ ((index : ℕ) (item : Entry) → slice_get d.entries index ≡ Some item → judged_by_script d t index item ≡ None) }
+    ensures refused { (d : Document) (r : Refusal) → (script_refusal d ≡ Some r) ↔ IsFirstRefused (judged_by_script d) d.entries r }
+    ensures none { (d : Document) → (script_refusal d ≡ None) ↔ ((index : ℕ) (item : Entry) → slice_get d.entries index ≡ Some item → judged_by_script d index item ≡ None) }
 {}
 
 /// In a document whose theorems are accepted, each two neighbours of the chain of a theorem are what

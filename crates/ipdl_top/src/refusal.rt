@@ -34,8 +34,6 @@ pub(crate) enum Refusal {
     Spell(Pos, SpellCause),
     // The tree is not of the form that is asked.
     Form(Pos, FormCause),
-    // The theorem has a step that is not built.
-    NotBuilt(Pos),
     // A count passes this number.
     Limit(Limit, u64, Where),
     // The item is ill typed.
@@ -54,11 +52,8 @@ impl Refusal {
         ensures { result ≡ kind_status (told self.now).kind }
     {
         match self {
-            Refusal::Spell(_, _)
-            | Refusal::Form(_, _)
-            | Refusal::NotBuilt(_)
-            | Refusal::Ill(_, _)
-            | Refusal::Item(_) => Status::BadSource,
+            Refusal::Spell(_, _) | Refusal::Form(_, _) | Refusal::Ill(_, _) | Refusal::Item(_) =>
+                Status::BadSource,
             Refusal::Limit(_, _, _) => Status::OverLimit,
             Refusal::WrongStep(_, _, _, _, _) | Refusal::Ends(_, _) => Status::WrongStep,
         }

@@ -166,7 +166,6 @@ pub(crate) fn refusal_text(alloc: Global, refusal: &Refusal) -> Result<Vec<u8>, 
     Ok(match refusal {
         Refusal::Spell(pos, cause) => spell_text(alloc, *pos, *cause)?.into_bytes(),
         Refusal::Form(pos, cause) => form_text(alloc, *pos, form_cause_name(*cause))?.into_bytes(),
-        Refusal::NotBuilt(pos) => form_text(alloc, *pos, "NotBuilt")?.into_bytes(),
         Refusal::Limit(limit, number, at) => limit_text(alloc, *limit, *number, at)?.into_bytes(),
         Refusal::Ill(item, ill) => ill_text(alloc, item, ill)?.into_bytes(),
         Refusal::WrongStep(theorem, side, number, rule, cause) => {

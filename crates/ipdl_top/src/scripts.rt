@@ -1,89 +1,28 @@
-//! Theorems by their scripts: which ones are built, and the chains of those that are proved.
+//! Theorems by their scripts: the chains of those that are proved.
 
-ghost use Rattle.std.specs.Prelude.{◌≡◌, ◌+◌, ◌≤◌, ◌++◌, ◌&&◌, All, IfOk, OnOk, map, length};
+ghost use Rattle.std.specs.Prelude.{◌≡◌, ◌+◌, ◌≤◌, ◌++◌, All, IfOk, OnOk, map, length};
 ghost use Rattle.ipdl_base.specs.Limits.{limit_number};
 ghost use Rattle.ipdl_chain.specs.ChainTexts.{assumptions_in};
 ghost use Rattle.ipdl_script.specs.Ready.{IsReady, neighbours_in};
 ghost use Rattle.ipdl_script.specs.Views.{proved_of};
-ghost use Rattle.ipdl_term.specs.Steps.{rule_of, step_of};
-ghost use Rattle.ipdl_tree.specs.Trees.{offset_of};
-ghost use Rattle.ipdl_tree.specs.Views.{located, all_located};
 ghost use Rattle.ipdl_forms.specs.Documents.{entry_of, document_of};
 ghost use Rattle.ipdl_forms.specs.Items.{SpellsDocument};
 ghost use Rattle.ipdl_forms.specs.Limits.{IsWithinLimits};
-ghost use Rattle.ipdl_forms.specs.Lists.{tree_at};
+ghost use Rattle.ipdl_tree.specs.Trees.{Located};
 ghost use Rattle.ipdl_top.specs.Chains.{claim_neighbours, claim_text, item_neighbours, item_text, proved_by, proved_text, theorem_count, theorems_with};
 ghost use Rattle.ipdl_top.specs.Books.{held_claim, IsReadyItem};
-ghost use Rattle.ipdl_top.specs.Scripts.{is_built_rule, is_built_step, are_built_steps, claim_refusal, theorem_refusal, item_offset, script_refusal};
+ghost use Rattle.ipdl_top.specs.Scripts.{claim_refusal, theorem_refusal, script_refusal};
 ghost use Rattle.ipdl_top.specs.Told.{Tests};
 ghost use Rattle.ipdl_top.specs.Typed.{IsTypedDocument};
 ghost use Rattle.ipdl_uses.specs.Views.{IsKept};
 
-use crate::refusal::{Refusal, Stop, over_at_theorem};
+use crate::refusal::{Stop, over_at_theorem};
 use crate::wrong::script_stop;
-use ipdl_base::{Limit, Pos};
+use ipdl_base::Limit;
 use ipdl_chain::{push_accepted_line, push_chain};
 use ipdl_forms::{Document, Item, TheoremItem};
 use ipdl_script::{Book, check_theorem};
-use ipdl_term::{Rule, Step};
-use ipdl_tree::{Node, Tree};
 use std::alloc::Global;
-
-// ---- what is built
-
-fn is_built_rule(rule: &Rule) -> bool
-    ensures { result ≡ is_built_rule (rule_of rule.now) }
-{
-    match rule {
-        Rule::Tidy | Rule::Lin(_) | Rule::Shape => false,
-        _ => true,
-    }
-}
-
-fn is_built_step(step: &Step) -> bool
-    ensures { result ≡ is_built_step (step_of step.now) }
-{
-    match step {
-        Step::Plain { rule, .. } | Step::Rev { rule, .. } => is_built_rule(rule),
-        Step::Invoke { .. } => true,
-    }
-}
-
-fn are_built_steps(steps: &[Step]) -> bool
-    ensures { result ≡ are_built_steps (map step_of steps.now) }
-{
-    for step in steps {
-        if !is_built_step(step) {
-            return false;
-        }
-    }
-    true
-}
-
-// ---- offsets
-
-// Where the tree at this index among some begins.
-fn offset_at(trees: &[Tree], index: usize) -> Pos
-    ensures { result.0 ≡ offset_of (tree_at index (all_located trees.now)) }
-{
-    match trees.get(index) {
-        Some(tree) => tree.pos,
-        None => Pos(0),
-    }
-}
-
-// Where the item of this index begins.
-fn item_offset(tree: &Tree, index: usize) -> Pos
-    ensures { result.0 ≡ item_offset (located tree.now) index }
-{
-    match &tree.node {
-        Node::Group(parts) => match parts.as_slice() {
-            [_, _, items @ ..] => offset_at(items, index),
-            _ => Pos(0),
-        },
-        _ => Pos(0),
-    }
-}
 
 // ---- theorems
 
@@ -121,27 +60,18 @@ fn add_chain(
     Ok(count)
 }
 
-fn has_built_scripts(theorem: &TheoremItem) -> bool
-    ensures { result ≡ (are_built_steps (map step_of theorem.now.left_steps) && are_built_steps (map step_of theorem.now.right_steps)) }
-{
-    are_built_steps(theorem.left_steps.as_slice())
-        && are_built_steps(theorem.right_steps.as_slice())
-}
-
 // Checks an item that is a theorem, and adds its chain and the text of the chain: how many
-// neighbours it has. The item has this index.
+// neighbours it has.
 fn add_item(
     alloc: Global,
     text: &mut Vec<u8>,
     book: &mut Book<'_>,
-    tree: &Tree,
-    index: usize,
     item: &Item,
 ) -> Result<u64, Stop>
     requires ready { IsReadyItem book.old item.now }
     requires short { neighbours_in book.old.chains ≤ limit_number Limit.Chain }
     requires kept { All (IsKept (length book.old.document.now.sig)) book.old.chains }
-    ensures tests { Tests result (theorem_refusal book.old.document.now.sig (document_of book.old.document.now).entries (map proved_of book.old.chains) (item_offset (located tree.now) index)
+    ensures tests { Tests result (theorem_refusal book.old.document.now.sig (document_of book.old.document.now).entries (map proved_of book.old.chains)
         (neighbours_in book.old.chains) (length text.old.items) (entry_of book.old.document.now.sig item.now)) }
     ensures text { OnOk result (text.new.items ≡ text.old.items
         ++ item_text book.old.document.now.sig (document_of book.old.document.now).entries (map proved_of book.old.chains) (entry_of book.old.document.now.sig item.now)) }
@@ -153,10 +83,7 @@ fn add_item(
     ensures document { book.new.document.now ≡ book.old.document.now }
 {
     match item {
-        Item::Theorem(theorem) if has_built_scripts(theorem) => {
-            add_chain(alloc, text, book, theorem)
-        }
-        Item::Theorem(_) => Err(Stop::Refused(Refusal::NotBuilt(item_offset(tree, index)))),
+        Item::Theorem(theorem) => add_chain(alloc, text, book, theorem),
         _ => Ok(0),
     }
 }
@@ -174,18 +101,18 @@ fn theorem_count(document: &Document) -> u64
 }
 
 // The chains of a document and the last line, or the first test of a theorem that fails.
-pub(crate) fn proved_text(alloc: Global, tree: &Tree, document: &Document) -> Result<Vec<u8>, Stop>
-    requires spelled { SpellsDocument (document_of document.now) (located tree.now) }
+pub(crate) fn proved_text(alloc: Global, document: &Document) -> Result<Vec<u8>, Stop>
+    requires spelled { (t : Located) × SpellsDocument (document_of document.now) t }
     requires within { IsWithinLimits (document_of document.now) }
     requires typed { IsTypedDocument (document_of document.now) }
-    ensures tests { Tests result (script_refusal (document_of document.now) (located tree.now)) }
+    ensures tests { Tests result (script_refusal (document_of document.now)) }
     ensures text { IfOk result (λ text. text.items ≡ proved_text (document_of document.now)) }
 {
     let mut text = Vec::new(alloc);
     let mut book = Book::new(alloc, document);
     let mut neighbours = 0;
-    for (index, item) in document.items.as_slice().iter().enumerate() {
-        neighbours += add_item(alloc, &mut text, &mut book, tree, index, item)?;
+    for item in document.items.as_slice() {
+        neighbours += add_item(alloc, &mut text, &mut book, item)?;
     }
     push_accepted_line(&mut text, theorem_count(document), neighbours)?;
     Ok(text)

@@ -10,7 +10,7 @@ pub enum Status {
     Accepted,
     /// A step is wrong, or two ends differ.
     WrongStep,
-    /// The source is no document, or an item is ill typed, or a step is by a rule that is not built.
+    /// The source is no document, or an item is ill typed, or what a command names is refused.
     BadSource,
     /// The words are none of the forms.
     Usage,

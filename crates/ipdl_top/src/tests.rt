@@ -78,12 +78,6 @@ fn answers_documents(rt: HostRuntime) -> Result<(), Fail> {
         ),
         (
             "check",
-            "(ipdl 1 (protocol A (inputs) (outputs) (nil)) (theorem t A A (left (comm (9)) (tidy ())) (right)))",
-            Status::BadSource,
-            "form 46 NotBuilt\n",
-        ),
-        (
-            "check",
             "(ipdl 1 (protocol A (inputs) (outputs) (nil)) (theorem t A A (left) (right (rev (unit ()) (par (out c (ret x0)) (nil))))))",
             Status::WrongStep,
             "wrong t right 1 rev unit NoVariable 0\n",

@@ -1,8 +1,7 @@
 use Rattle.std.proofs.Common.{[], Some}
 use Rattle.std.proofs.lemmas.Result.{err_from_is_err_and}
-use Rattle.ipdl_rules_r.specs.Matching as Q
 use Rattle.ipdl_script.proofs.PartTests.{told_of_answer}
-use Rattle.ipdl_script.specs.Instances.{answer_of_reactions}
+use Rattle.ipdl_script.specs.Instances.{reaction_answer}
 use Rattle.ipdl_script.specs.Settling.{settled_rule}
 use Rattle.ipdl_term.specs.Steps.{rev, rule_of}
 use Rattle.ipdl_term.specs.Terms.{reaction_term}
@@ -16,4 +15,4 @@ returns-in_err-made-clause-test c =
     let p = err_from_is_err_and c.from_residual.result c.from_residual.ensures.1 in
     rw (p.1, p.2)
     (told_of_answer c.in_err-made.field-0.0 (rev [] settled (reaction_term (reaction_of c.args.written.now))) (Some (reaction_term (reaction_of c.args.part.now)))
-    (answer_of_reactions (Q.answer (signature_of c.args.sig.now) settled (reaction_of c.args.written.now))) c.in_err-made.ensures.test)
+    (reaction_answer (signature_of c.args.sig.now) settled (reaction_of c.args.written.now)) c.in_err-made.ensures.test)

@@ -1,16 +1,11 @@
-use Rattle.std.proofs.Common.{◌≡◌, ℕ, List, length, map, reverse, Some, ap, sym, ◌∙◌, arith}
-use Rattle.std.proofs.lemmas.List.{length-reverse}
+use Rattle.std.proofs.Common.{length, map, reverse, Some, ap, ◌∙◌, arith}
 use Rattle.ipdl_cursor.specs.Views.{part_of}
-use Rattle.ipdl_script.proofs.Fits.{few_around}
+use Rattle.ipdl_script.proofs.Fits.{few_around, depth_is}
 use Rattle.ipdl_script.proofs.TableTruth.{old_fits, new_fits, tests_fit, truth_told}
 use Rattle.ipdl_script.specs.Views.{setting_of}
 use Rattle.ipdl_term.specs.Surroundings.{condition_of}
 use Rattle.ipdl_term.specs.Views.{expression_of, protocol_of}
 use Rattle.ipdl_script.proofs.truth.check_table.Goals as goal
-
--- the depth is the number of widths around
-depth_is : (held widths : List ℕ) → reverse held ≡ widths → length held ≡ length widths
-depth_is held widths h = sym (length-reverse held) ∙ ap length h
 
 pub check_same-requires-clause-few : goal.check_same-requires-clause-few
 check_same-requires-clause-few c =

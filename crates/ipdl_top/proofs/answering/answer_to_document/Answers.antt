@@ -1,4 +1,3 @@
-use Rattle.ipdl_tree.specs.Views.{located}
 use Rattle.ipdl_forms.specs.Documents.{document_of}
 use Rattle.ipdl_top.specs.Told.{request_of}
 use Rattle.ipdl_top.proofs.ItemTypes.{IsTypedDocument-none}
@@ -8,14 +7,14 @@ use Rattle.ipdl_top.proofs.answering.answer_to_document.Goals as goal
 
 pub answer_to_typed-requires-clause-typed : goal.answer_to_typed-requires-clause-typed
 answer_to_typed-requires-clause-typed c =
-    IsTypedDocument-none (document_of c.args.document.now) (HaveSides-spelled (document_of c.args.document.now) (located c.args.tree.now) c.requires.spelled) c.in-Ok.ensures
+    IsTypedDocument-none (document_of c.args.document.now) (HaveSides-spelled (document_of c.args.document.now) c.requires.spelled.0 c.requires.spelled.1) c.in-Ok.ensures
 
 pub returns-in-Ok : goal.returns-in-Ok
 returns-in-Ok c =
-    Settles-asked (request_of c.args.request.now) (document_of c.args.document.now) (located c.args.tree.now) c.answer_to_typed.result
-    (IsTypedDocument-none (document_of c.args.document.now) (HaveSides-spelled (document_of c.args.document.now) (located c.args.tree.now) c.requires.spelled) c.in-Ok.ensures)
+    Settles-asked (request_of c.args.request.now) (document_of c.args.document.now) c.answer_to_typed.result
+    (IsTypedDocument-none (document_of c.args.document.now) (HaveSides-spelled (document_of c.args.document.now) c.requires.spelled.0 c.requires.spelled.1) c.in-Ok.ensures)
     c.answer_to_typed.ensures
 
 pub returns-in-Err : goal.returns-in-Err
 returns-in-Err c =
-    Settles-ill (request_of c.args.request.now) (document_of c.args.document.now) (located c.args.tree.now) c.in-Err.stop c.in-Err.ensures
+    Settles-ill (request_of c.args.request.now) (document_of c.args.document.now) c.in-Err.stop c.in-Err.ensures
